@@ -1,6 +1,6 @@
 -- What the program draws for a schedule (this project's own).
 use Rattle.std.specs.Prelude.{ℕ, List}
-use Rattle.protocol.specs.declared.event.Event.{Event}
+use Rattle.events.specs.declared.event.Event.{Event}
 use Rattle.schedule.specs.declared.setup.Setup.{Setup}
 use Rattle.schedule.specs.Schedules as schedule
 use Rattle.draw.specs.declared.range.Range.{Range}

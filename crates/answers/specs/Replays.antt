@@ -6,9 +6,9 @@ use Rattle.schedule.specs.Printing.{outcome_text}
 use Rattle.protocol.specs.World.{start}
 use Rattle.protocol.specs.Chronicle.{Chronicle}
 use Rattle.protocol.specs.Replay.{Farm, step, run, opening}
-use Rattle.protocol.specs.declared.answer.EventRefusal.{EventRefusal}
-use Rattle.protocol.specs.declared.answer.Outcome.{Outcome}
-use Rattle.protocol.specs.declared.event.Event.{Event}
+use Rattle.events.specs.declared.answer.EventRefusal.{EventRefusal}
+use Rattle.events.specs.declared.answer.Outcome.{Outcome}
+use Rattle.events.specs.declared.event.Event.{Event}
 use Rattle.schedule.specs.declared.setup.Setup.{Setup}
 use Rattle.schedule.specs.Schedules as schedule
 use Rattle.world.specs.Printing.{ArePrinted}

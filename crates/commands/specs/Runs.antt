@@ -3,14 +3,14 @@ use Rattle.std.specs.Prelude.{◌≡◌, ◌≢◌, ℕ, List, [], ◌∷◌, �
 use Rattle.std.specs.List.{All}
 use Rattle.std.specs.String.{string_bytes}
 use Rattle.farm_base.specs.Digests.{digest_text}
-use Rattle.protocol.specs.declared.event.Event.{Event}
+use Rattle.events.specs.declared.event.Event.{Event}
 use Rattle.schedule.specs.declared.setup.Setup.{Setup}
 use Rattle.jobs.specs.declared.answer.Answer.{Answer}
 use Rattle.jobs.specs.declared.answer.Answer.TheVariants.{Waiting, Output, Failed}
 use Rattle.saverecord.specs.Logs.{Holds}
 use Rattle.saverecord.specs.Texts.{whole_alone}
 use Rattle.farm.specs.Ends.{failed_in}
-use Rattle.farmboard.specs.Replays.{farm_after, commits_after}
+use Rattle.farmhistory.specs.Replays.{farm_after, commits_after}
 use Rattle.commands.specs.Acts.{File}
 
 -- `DIGEST`, or `failed`

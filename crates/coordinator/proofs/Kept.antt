@@ -1,35 +1,23 @@
 -- What the rules promise of one message is kept.
-use Rattle.std.proofs.Common.{◌≡◌, List, [], Bool, true, false, not, ◌&&◌, ◌||◌, eqb, None, Some, Option, refl, sym, ap, ◌∙◌, subst, append-nil}
+use Rattle.std.proofs.Common.{◌≡◌, Bool, true, false, not, ◌&&◌, ◌||◌, eqb, sym, ap, ◌∙◌, subst}
 use Rattle.std.proofs.lemmas.Bool.{and_from, eq-eqb}
 use Rattle.std.specs.Prelude.{nat_lt}
 use Rattle.protocol.specs.Farm.{farm_limits}
 use Rattle.farm_base.specs.declared.message.Request.TheVariants.{Acquire}
 use Rattle.farm_base.specs.declared.message.FromCoord.TheVariants as told
 use Rattle.protocol.specs.Lists.{In}
-use Rattle.protocol.specs.Names.{Slot, NodeId, Life, Ask, leased_wants}
-use Rattle.protocol.specs.Machine.{LineVersion, ToCoord, Parked}
+use Rattle.protocol.specs.Names.{NodeId, Life, Ask, leased_wants}
+use Rattle.protocol.specs.Machine.{ToCoord, Parked}
 use Rattle.protocol.specs.Ledger.{Ledger, pick, is_free, is_leased, all_taken, busy, elsewhere, decision, is_parked, begin_work, handled}
 use Rattle.protocol.specs.Follows.{NoneReady, OnlyItself, after_life}
-use Rattle.protocol.specs.declared.answer.CoordNote.TheVariants as note
+use Rattle.events.specs.declared.answer.CoordNote.TheVariants as note
 use Rattle.farm_base.specs.declared.message.Why.TheVariants.{InstancesSpent}
-use Rattle.protocol.specs.declared.answer.Decision.{Decision}
-use Rattle.protocol.specs.declared.answer.Decision.TheVariants.{Give, Deny, Wait}
+use Rattle.events.specs.declared.answer.Decision.{Decision}
+use Rattle.events.specs.declared.answer.Decision.TheVariants.{Give, Deny, Wait}
 use Rattle.protocol.proofs.Answering.{fitting_ask_is_granted}
 use Rattle.protocol.proofs.Base.{any_in}
-use Rattle.versions.specs.declared.lines.Added.{Added}
-use Rattle.versions.specs.declared.lines.SlotLine.{SlotLine}
-use Rattle.drafts.specs.Held.{line_at}
-use Rattle.drafts.specs.Shown.{lines_with}
 use Rattle.drafts.specs.Idle.{AreHeldUp}
-use Rattle.coordinator.specs.Promises.{OnlyGrow, asked, granted, GrantsAtOnce}
-
--- what a commit adds leaves all before it
-pub grows : (lines : List SlotLine) (o : Option Added) → OnlyGrow (line_at lines) (lines_with lines o)
-grows lines None s = ([], sym (append-nil (line_at lines s)))
-grows lines (Some a) s = (_, refl)
-
-pub stays : (line : Slot → List LineVersion) → OnlyGrow line line
-stays line s = ([], sym (append-nil (line s)))
+use Rattle.coordinator.specs.Promises.{asked, granted, GrantsAtOnce}
 
 -- an ask that is held up isn't granted
 no_give : (here taken held spent : Bool) → (here || held) ≡ true → pick here taken held spent ≡ Give → ⊥

@@ -1,7 +1,5 @@
+pub mod Answering
+pub mod Drafted
 pub mod Kept
 pub mod Recording
 pub mod Rightful
-pub mod Records
-pub mod Keeping
-pub mod Entries
-pub mod Preparing

@@ -1,34 +1,18 @@
 -- Where a call doesn't say that the record changed, it is as before.
-use Rattle.std.proofs.Common.{◌≡◌, ◌<◌, ◌≤◌, List, [], ◌∷◌, Result, Ok, Err, inl, inr, sym, ap, ◌∙◌, arith}
-use Rattle.std.specs.Prelude.{AllPairs}
+use Rattle.std.proofs.Common.{◌≤◌, Result, Ok, Err}
 use Rattle.protocol.specs.Farm.{farm_limits}
-use Rattle.holdings.specs.Leases.{IsBefore}
-use Rattle.protocol.specs.Lists.{In}
 use Rattle.protocol.specs.Names.{Slot, NodeId, Ticket}
 use Rattle.protocol.specs.Machine.{ToCoord}
-use Rattle.protocol.specs.Ledger.{Ledger, Lease, Work, begin_work, handled, withdrawn, retired, pruned}
-use Rattle.protocol.specs.declared.answer.CoordRefusal.{CoordRefusal}
+use Rattle.protocol.specs.Ledger.{Ledger, Work, begin_work, handled, withdrawn, retired, pruned}
+use Rattle.events.specs.declared.answer.CoordRefusal.{CoordRefusal}
 use Rattle.protocol.proofs.Base.{all_in}
 use Rattle.protocol.proofs.Saving as saving
 use Rattle.protocol.proofs.Saving.{Apart}
 use Rattle.protocol.proofs.Owning.{handled_keeps}
 use Rattle.drafts.specs.Sound.{IsSound}
-use Rattle.coordinator.specs.Promises.{EndsOnlyItsOwn, ChangesAsTold}
-use Rattle.holdings.proofs.LeaseLemmas.{AllPairs-head, AllPairs-tail}
-
--- rising tickets are of one lease each
-pub own_tickets : (live : List Lease) → AllPairs IsBefore live → (x y : Lease) → In x live → In y live → x.ticket.0 ≡ y.ticket.0 → x ≡ y
-own_tickets [] h x y i j e = absurd i
-own_tickets (g ∷ live) h x y (inl i) (inl j) e = i ∙ sym j
-own_tickets (g ∷ live) h x y (inl i) (inr j) e =
-    let above : g.ticket.0 < y.ticket.0 = all_in (IsBefore g) live (AllPairs-head IsBefore g live h) y j in
-    let same : x.ticket.0 ≡ g.ticket.0 = ap (λ (z : Lease). z.ticket.0) i in
-    absurd (omega arith)
-own_tickets (g ∷ live) h x y (inr i) (inl j) e =
-    let above : g.ticket.0 < x.ticket.0 = all_in (IsBefore g) live (AllPairs-head IsBefore g live h) x i in
-    let same : y.ticket.0 ≡ g.ticket.0 = ap (λ (z : Lease). z.ticket.0) j in
-    absurd (omega arith)
-own_tickets (g ∷ live) h x y (inr i) (inr j) e = own_tickets live (AllPairs-tail IsBefore g live h) x y i j e
+use Rattle.coordinator.specs.Promises.{EndsOnlyItsOwn}
+use Rattle.ledger.specs.Prepared.{ChangesAsTold}
+use Rattle.ledger.proofs.Entries.{own_tickets}
 
 apart_of : (q : Ledger) → IsSound q → Apart q
 apart_of q s = record { unique = own_tickets q.live s.leases.tickets; top = all_in (λ g. g.ticket.0 ≤ q.last) q.live s.given }

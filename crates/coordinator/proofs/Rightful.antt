@@ -5,7 +5,7 @@ use Rattle.farm_base.specs.declared.message.Request.{Request}
 use Rattle.farm_base.specs.declared.message.Request.TheVariants.{Hello, Acquire, Commit, Release}
 use Rattle.protocol.specs.Names.{NodeId, Slot, Ticket}
 use Rattle.protocol.specs.Machine.{ToCoord}
-use Rattle.protocol.specs.declared.answer.CoordRefusal.{CoordRefusal}
+use Rattle.events.specs.declared.answer.CoordRefusal.{CoordRefusal}
 use Rattle.protocol.specs.Ledger.{Ledger, Work, begin_work, handled, withdrawn, retired, pruned}
 use Rattle.protocol.specs.Lawful.{IsNumber, IsSaid, IsLawfulWork}
 use Rattle.protocol.specs.Farm.{farm_limits}

@@ -1,6 +1,4 @@
 pub use Rattle.drafts.specs.Held
-pub mod Keeping
-pub mod Prepared
+pub use Rattle.ledger.specs.Seen
 pub mod Promises
-pub mod Seen
 pub mod Settling

@@ -1,20 +1,15 @@
 -- What the rules promise of one message or call.
-use Rattle.std.specs.Prelude.{◌≡◌, ◌<◌, ◌⊎◌, Bool, false, nat_lt, List, Result, Ok, Err}
+use Rattle.std.specs.Prelude.{◌≡◌, ◌<◌, ◌⊎◌, Bool, false, nat_lt, List}
 use Rattle.protocol.specs.Farm.{farm_limits}
 use Rattle.farm_base.specs.declared.message.Request.TheVariants.{Acquire}
 use Rattle.farm_base.specs.declared.message.FromCoord.TheVariants as told
-use Rattle.protocol.specs.Lists.{In, IsFrontOf}
-use Rattle.protocol.specs.Names.{Slot, Ask, Want}
-use Rattle.protocol.specs.Machine.{Grant, LineVersion, FromCoord, ToCoord, Parked}
-use Rattle.protocol.specs.Ledger.{Ledger, Lease, Work, begin_work, is_parked, saves, grant_of, lease_for}
+use Rattle.protocol.specs.Lists.{In}
+use Rattle.protocol.specs.Names.{Ask, Want}
+use Rattle.protocol.specs.Machine.{Grant, FromCoord, ToCoord, Parked}
+use Rattle.protocol.specs.Ledger.{Ledger, Lease, begin_work, is_parked, grant_of, lease_for}
 use Rattle.protocol.specs.Follows.{MayBeGranted, after_life}
-use Rattle.protocol.specs.declared.answer.CoordNote.{CoordNote}
-use Rattle.protocol.specs.declared.answer.CoordNote.TheVariants as note
-use Rattle.protocol.specs.declared.answer.CoordRefusal.{CoordRefusal}
-
--- no line loses or changes a version
-abbrev pub OnlyGrow : (Slot → List LineVersion) → (Slot → List LineVersion) → Type 0
-OnlyGrow old new = (s : Slot) → IsFrontOf (old s) (new s)
+use Rattle.events.specs.declared.answer.CoordNote.{CoordNote}
+use Rattle.events.specs.declared.answer.CoordNote.TheVariants as note
 
 -- what a message asks for
 abbrev pub asked : ToCoord → Ask → List Want → Bool → Parked
@@ -40,8 +35,3 @@ abbrev pub EndsOnlyItsOwn : Ledger → ToCoord → Ledger → Type 0
 EndsOnlyItsOwn old y new = (g : Lease) → In g old.live
     → In g new.live
     ⊎ ((g.node ≡ y.node) × ((g.life ≡ y.life) ⊎ ((g.life.0 < y.life.0) × (old.lives y.node.0 < y.life.0))))
-
--- what the record holds is as before, unless the work says that it changed
-abbrev pub ChangesAsTold : Ledger → Result Work CoordRefusal → Type 0
-ChangesAsTold q (Ok w) = w.changed ≡ false → saves w.ledger ≡ saves q
-ChangesAsTold q (Err e) = Unit {0}

@@ -15,21 +15,23 @@ ghost use Rattle.protocol.specs.Follows.{NoneReady};
 ghost use Rattle.protocol.specs.Lawful.{IsNumber, IsSaid};
 ghost use Rattle.protocol.specs.Ledger.{Work, begin_work, handled, withdrawn, retired, pruned, nudged};
 ghost use Rattle.drafts.specs.Held.{line_at, ledger};
-ghost use Rattle.coordinator.specs.Prepared.{IsPrepared};
-ghost use Rattle.coordinator.specs.Promises.{OnlyGrow, GrantsAtOnce, EndsOnlyItsOwn};
-ghost use Rattle.coordinator.specs.Seen.{IsKeeping};
-ghost use Rattle.coordinator.specs.Settling.{Answers, is_save_fault, Settles, Loads, TakesUp, Restarts, Syncs};
+ghost use Rattle.ledger.specs.Prepared.{IsPrepared};
+ghost use Rattle.coordinator.specs.Promises.{GrantsAtOnce, EndsOnlyItsOwn};
+ghost use Rattle.ledger.specs.Seen.{IsKeeping};
+ghost use Rattle.coordinator.specs.Settling.{Settles, TakesUp, Restarts, Syncs};
+ghost use Rattle.ledger.specs.Settling.{Answers, Loads, OnlyGrow, is_save_fault};
 ghost use Rattle.drafts.specs.Shown.{work_of};
 ghost use Rattle.saverecord.specs.Keepers.{HasFailed};
 
-use super::handled::Handled;
-use super::ledger::Ledger;
-use super::text::Sizes;
+use super::preparing::{
+    prepare, prune_refusal, pruning, retirement, retirement_refusal, withdrawal, withdrawal_refusal,
+};
 use drafts::Prepared;
-use farm_base::{Lease, NodeId, NodeLife, Parked, Slot, Ticket, ToCoord};
+use events::{CoordNote, CoordRefusal, Kept};
+use farm_base::{Items, Lease, NodeId, NodeLife, Parked, Slot, Ticket, ToCoord};
 use leases::SlotState;
-use protocol::{CoordRefusal, Kept};
-use saverecord::{Keeper, KeeperRefusal, MemoryKeeper, RecordRefusal, SaveFault};
+use ledger::{Handled, Ledger};
+use saverecord::{Keeper, MemoryKeeper, SaveFault};
 use std::alloc::{AllocError, Global};
 use std::marker::Model;
 use versions::Line;
@@ -55,11 +57,11 @@ impl<K: Keeper> Drop for Coordinator<K> {
 }
 
 impl<K: Keeper> Model for Coordinator<K> {
-    ghost use Rattle.coordinator.specs.Seen.{Seen};
+    ghost use Rattle.ledger.specs.Seen.{Seen};
 
     ghost Value = { Seen K };
 
-    ghost use Rattle.coordinator.specs.Seen.{IsKeeping};
+    ghost use Rattle.ledger.specs.Seen.{IsKeeping};
 
     ghost view = { λ c. record { held = c.ledger; keeper = c.keeper; down = c.down } };
 
@@ -71,29 +73,6 @@ impl<K: Keeper> Model for Coordinator<K> {
 pub struct NotStarted<K: Keeper> {
     pub keeper: K,
     pub refusal: CoordRefusal,
-}
-
-/// What the keeper's texts hold, as a restart takes it up.
-fn load<K: Keeper>(keeper: &mut K, alloc: Global) -> Result<Ledger, CoordRefusal>
-    ensures answer { Loads K.loading (K.kept keeper.old) keeper.old keeper.new result }
-    ensures kept { K.kept keeper.new ≡ K.kept keeper.old }
-    ensures cause { result ≡ Err CoordRefusal.LoadFault → HasFailed (K.failed keeper.old) (K.failed keeper.new) }
-{
-    let log = match keeper.load(alloc) {
-        Ok(log) => log,
-        Err(KeeperRefusal::Fault) => return Err(CoordRefusal::LoadFault),
-        Err(KeeperRefusal::OutOfMemory) => return Err(CoordRefusal::OutOfMemory),
-    };
-    match log.read(alloc) {
-        Ok(read) => {
-            match Ledger::of(alloc, read, Sizes::of(&log)) {
-                Ok(ledger) => Ok(ledger),
-                Err(_) => Err(CoordRefusal::OutOfMemory),
-            }
-        }
-        Err(RecordRefusal::OutOfMemory) => Err(CoordRefusal::OutOfMemory),
-        Err(_) => Err(CoordRefusal::BadRecord),
-    }
 }
 
 /// Whether the answer is that the save failed.
@@ -112,7 +91,7 @@ impl<K: Keeper> Coordinator<K> {
         ensures kept { IfErr result (λ n. K.kept n.keeper ≡ K.kept keeper) }
         ensures cause { IfErr result (λ n. n.refusal ≡ CoordRefusal.LoadFault → HasFailed (K.failed keeper) (K.failed n.keeper)) }
     {
-        match load(&mut keeper, alloc) {
+        match Ledger::load(alloc, &mut keeper) {
             Ok(ledger) => Ok(Coordinator {
                 ledger,
                 keeper,
@@ -129,7 +108,7 @@ impl<K: Keeper> Coordinator<K> {
         ensures kept { K.kept self.new.keeper ≡ K.kept self.old.keeper }
         ensures cause { result ≡ Err CoordRefusal.LoadFault → HasFailed (K.failed self.old.keeper) (K.failed self.new.keeper) }
     {
-        match load(&mut self.keeper, alloc) {
+        match Ledger::load(alloc, &mut self.keeper) {
             Ok(ledger) => {
                 self.ledger = ledger;
                 self.down = false;
@@ -183,8 +162,7 @@ impl<K: Keeper> Coordinator<K> {
         if self.down {
             return Err(CoordRefusal::Down);
         }
-        self.ledger.is_rightful();
-        let Ok(prepared) = self.ledger.prepare(alloc, message) else {
+        let Ok(prepared) = prepare(alloc, self.ledger.state(), message) else {
             return Err(CoordRefusal::OutOfMemory);
         };
         self.settle(alloc, prepared)
@@ -200,10 +178,11 @@ impl<K: Keeper> Coordinator<K> {
         if self.down {
             return Err(CoordRefusal::Down);
         }
-        if let Some(refusal) = self.ledger.withdrawal_refusal(ticket) {
+        let state = self.ledger.state();
+        if let Some(refusal) = withdrawal_refusal(state, ticket) {
             return Err(refusal);
         }
-        let Ok(prepared) = self.ledger.withdrawal(alloc, ticket) else {
+        let Ok(prepared) = withdrawal(alloc, state, ticket) else {
             return Err(CoordRefusal::OutOfMemory);
         };
         self.settle(alloc, prepared)
@@ -220,10 +199,11 @@ impl<K: Keeper> Coordinator<K> {
         if self.down {
             return Err(CoordRefusal::Down);
         }
-        if let Some(refusal) = self.ledger.retirement_refusal(node) {
+        let state = self.ledger.state();
+        if let Some(refusal) = retirement_refusal(state, node) {
             return Err(refusal);
         }
-        let Ok(prepared) = self.ledger.retirement(alloc, node) else {
+        let Ok(prepared) = retirement(alloc, state, node) else {
             return Err(CoordRefusal::OutOfMemory);
         };
         self.settle(alloc, prepared)
@@ -238,10 +218,11 @@ impl<K: Keeper> Coordinator<K> {
         if self.down {
             return Err(CoordRefusal::Down);
         }
-        if let Some(refusal) = self.ledger.prune_refusal(slot) {
+        let state = self.ledger.state();
+        if let Some(refusal) = prune_refusal(state, slot) {
             return Err(refusal);
         }
-        let Ok(prepared) = self.ledger.pruning(alloc, slot) else {
+        let Ok(prepared) = pruning(alloc, state, slot) else {
             return Err(CoordRefusal::OutOfMemory);
         };
         self.settle(alloc, prepared)
@@ -255,10 +236,13 @@ impl<K: Keeper> Coordinator<K> {
         if self.down {
             return Err(CoordRefusal::Down);
         }
-        let Ok(handled) = self.ledger.nudge(alloc) else {
+        let Ok(sends) = self.ledger.state().remind_all(alloc) else {
             return Err(CoordRefusal::OutOfMemory);
         };
-        Ok(handled)
+        Ok(Handled {
+            sends: Items::new(sends),
+            note: CoordNote::Nudged,
+        })
     }
 
     /// What its keeper has holds a ledger, and while it is up, that of its ledger.
@@ -272,7 +256,7 @@ impl<K: Keeper> Coordinator<K> {
     pub fn is_none_ready(&self)
         ensures { NoneReady farm_limits (ledger self.now.held) }
     {
-        self.ledger.is_rightful();
+        let _state = self.ledger.state();
     }
 
     /// Who keeps its record.
@@ -293,7 +277,7 @@ impl<K: Keeper> Coordinator<K> {
     pub fn most_sends(&self) -> usize
         ensures { (y : ToCoord) → length (handled farm_limits y (begin_work (ledger self.now.held))).sends ≤ result }
     {
-        self.ledger.most_sends()
+        1 + self.ledger.state().parked.waiting().len()
     }
 
     /// The most messages that a withdrawal, a retirement or a prune can make it send.
@@ -302,35 +286,35 @@ impl<K: Keeper> Coordinator<K> {
         ensures retire { (n : NodeId) (w : Work) → retired farm_limits n (begin_work (ledger self.now.held)) ≡ Ok w → length w.sends ≤ result }
         ensures prune { (s : Slot) (w : Work) → pruned farm_limits s (begin_work (ledger self.now.held)) ≡ Ok w → length w.sends ≤ result }
     {
-        self.ledger.most_sends_of_calls()
+        self.ledger.state().parked.waiting().len()
     }
 
     /// The leases that are live, the oldest first: who holds which slots.
     pub fn leases(&self) -> &[Lease]
         ensures { result.now ≡ self.now.held.live }
     {
-        self.ledger.leases()
+        self.ledger.state().table.leases()
     }
 
     /// The asks that wait, in order of arrival: who waits for which folders.
     pub fn parked(&self) -> &[Parked]
         ensures { result.now ≡ self.now.held.parked }
     {
-        self.ledger.parked()
+        self.ledger.state().parked.waiting()
     }
 
     /// The greatest life seen of each node that was heard, by rising number.
     pub fn lives(&self) -> &[NodeLife]
         ensures { result.now ≡ self.now.held.lives }
     {
-        self.ledger.lives()
+        self.ledger.state().lives.as_slice()
     }
 
     /// The nodes that are retired, rising.
     pub fn retired_nodes(&self) -> &[NodeId]
         ensures { result.now ≡ self.now.held.gone }
     {
-        self.ledger.retired_nodes()
+        self.ledger.state().gone.as_slice()
     }
 
     /// The PRIVATE slots that are never granted again, rising.
@@ -338,21 +322,25 @@ impl<K: Keeper> Coordinator<K> {
         ensures rising { IfOk result (λ v. IsStrictlySortedBy slot_cmp v.items) }
         ensures exact { IfOk result (λ v. among v.items ≡ among self.now.held.retired) }
     {
-        self.ledger.retired_slots(alloc)
+        let (_leases, retired) = self.ledger.state().table.to_parts(alloc)?;
+        Ok(retired)
     }
 
     /// The last ticket that was given, or 0 before the first.
     pub fn last_ticket(&self) -> Ticket
         ensures { result.0 ≡ self.now.held.last }
     {
-        self.ledger.last_ticket()
+        match self.ledger.state().tickets.peek() {
+            Ok((next, _)) => Ticket(next.0 - 1),
+            Err(_) => Ticket(u64::MAX),
+        }
     }
 
     /// The line of a slot, if it has a version.
     pub fn line(&self, slot: &Slot) -> Option<&Line>
         ensures { option_copied result ≡ line_shown (line_at self.now.held.lines slot.now) }
     {
-        self.ledger.line(slot)
+        self.ledger.state().lines.find(slot)
     }
 
     /// The slots that have a version, rising.
@@ -360,14 +348,14 @@ impl<K: Keeper> Coordinator<K> {
         ensures rising { IfOk result (λ v. IsStrictlySortedBy slot_cmp v.items) }
         ensures exact { IfOk result (λ v. (s : _) → list_any (λ x. slot_eq x s) v.items ≡ not (is_nil (line_at self.now.held.lines s))) }
     {
-        self.ledger.slots(alloc)
+        self.ledger.state().lines.slots(alloc)
     }
 
     /// Whether the slot is free, leased or retired.
     pub fn slot_state(&self, slot: &Slot) -> SlotState
         ensures { result ≡ state_of (record { live = self.now.held.live; retired = self.now.held.retired }) slot.now }
     {
-        self.ledger.slot_state(slot)
+        self.ledger.state().table.slot_state(slot)
     }
 }
 

@@ -1,6 +1,6 @@
 //! Laws of what the contracts promise. A function whose proof needs one of them calls it.
 ghost use Rattle.std.specs.Prelude.{◌≡◌};
-ghost use Rattle.coordinator.specs.Promises.{OnlyGrow};
+ghost use Rattle.ledger.specs.Settling.{OnlyGrow};
 ghost use Rattle.versions.specs.Lines.{LineOf};
 
 /// Lines that are as they were have only grown, and lines that grew twice have only grown. So what each call promises

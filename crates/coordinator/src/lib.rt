@@ -2,15 +2,10 @@
 #![tactic(auto)]
 
 mod coordinator;
-mod handled;
 pub mod laws;
-mod ledger;
-mod nodes;
-mod record;
-mod table_room;
-mod text;
+mod preparing;
 
 pub use coordinator::{Coordinator, NotStarted};
-pub use handled::Handled;
+pub use events::{CoordNote, CoordRefusal};
 pub use leases::SlotState;
-pub use protocol::{CoordNote, CoordRefusal};
+pub use ledger::Handled;

@@ -2,18 +2,19 @@
 use Rattle.std.proofs.Common.{◌≡◌, ◌⊎◌, ℕ, Bool, true, false, List, [], ◌∷◌, ◌++◌, Option, Some, None, Result, Ok, Err, inl, inr, refl, sym, ap, ◌∙◌, subst, append_assoc}
 use Rattle.std.specs.Prelude.{map, ⊤, if◌then◌else◌}
 use Rattle.std.proofs.lemmas.List.{append-nil}
-use Rattle.coordinator.specs.declared.handled.Handled.{Handled}
-use Rattle.coordinator.specs.Held.{Held, ledger}
+use Rattle.ledger.specs.declared.handled.Handled.{Handled}
+use Rattle.coordinator.specs.Held.{ledger}
 use Rattle.coordinator.specs.Seen.{Seen}
-use Rattle.coordinator.specs.Settling.{Saves, SavesIf, Answers, SettlesWhile, Restarts, Syncs, is_save_fault}
-use Rattle.coordinator.proofs.Records.{held_in}
+use Rattle.coordinator.specs.Settling.{SettlesWhile, Restarts}
+use Rattle.ledger.specs.Settling.{SavesIf, Answers, is_save_fault}
+use Rattle.ledger.proofs.Records.{held_in}
 use Rattle.farm_base.specs.declared.digest.Digest.{Digest}
 use Rattle.farm_base.specs.declared.limits.TheConstants.{NODES}
 use Rattle.farm_base.specs.declared.message.Message.{Message}
 use Rattle.farm_base.specs.declared.message.ToCoord.{ToCoord}
 use Rattle.filekeeper.specs.Keepers.{Filed, GatherSaves, FileGathers, FileSaves, FileLoads, FileSyncs, file_texts}
-use Rattle.protocol.specs.declared.answer.CoordRefusal.{CoordRefusal}
-use Rattle.protocol.specs.declared.answer.CoordRefusal.TheVariants.{Down, SaveFault, BadRecord, NotLive, SlotLeased, NoSuchSlot, TicketsSpent, OutOfMemory, LoadFault, Tenure, TenureHeld, NodeRetired}
+use Rattle.events.specs.declared.answer.CoordRefusal.{CoordRefusal}
+use Rattle.events.specs.declared.answer.CoordRefusal.TheVariants.{Down, SaveFault, BadRecord, NotLive, SlotLeased, NoSuchSlot, TicketsSpent, OutOfMemory, LoadFault, Tenure, TenureHeld, NodeRetired}
 use Rattle.protocol.specs.Farm.{farm_limits}
 use Rattle.protocol.specs.Ledger.{Ledger, Work, Saved, saves, reads}
 use Rattle.protocol.specs.Lists.{In}

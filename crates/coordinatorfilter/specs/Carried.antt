@@ -1,13 +1,14 @@
 -- What a coordinator does of a call, with the restarts that go with it (this project's own).
 use Rattle.std.specs.Prelude.{◌≡◌, Bool, true, false, List, filter, map, Option, Some, None, Result, Ok, ⊤}
-use Rattle.coordinator.specs.declared.handled.Handled.{Handled}
+use Rattle.ledger.specs.declared.handled.Handled.{Handled}
 use Rattle.coordinator.specs.Held.{ledger, life_at}
 use Rattle.coordinator.specs.Seen.{Seen}
-use Rattle.coordinator.specs.Settling.{Settles, Restarts, is_save_fault}
+use Rattle.coordinator.specs.Settling.{Settles, Restarts}
+use Rattle.ledger.specs.Settling.{is_save_fault}
 use Rattle.farm_base.specs.declared.lease.NodeLife.{NodeLife}
-use Rattle.protocol.specs.declared.answer.CoordNote.{CoordNote}
-use Rattle.protocol.specs.declared.answer.CoordNote.TheVariants as note
-use Rattle.protocol.specs.declared.answer.CoordRefusal.{CoordRefusal}
+use Rattle.events.specs.declared.answer.CoordNote.{CoordNote}
+use Rattle.events.specs.declared.answer.CoordNote.TheVariants as note
+use Rattle.events.specs.declared.answer.CoordRefusal.{CoordRefusal}
 use Rattle.protocol.specs.Farm.{farm_limits}
 use Rattle.protocol.specs.Ledger.{Lease, has_ticket, is_at}
 use Rattle.protocol.specs.Machine.{ToCoord}

@@ -2,7 +2,7 @@
 -- do.
 use Rattle.std.specs.Prelude.{◌≡◌, ◌⊎◌, ℕ, Bool, true, false, List, [], ◌∷◌, ◌++◌, map, Option, Some, None, Result, Ok, Err}
 use mathlib.Core.Logic.{inl, inr}
-use Rattle.coordinator.specs.declared.handled.Handled.{Handled}
+use Rattle.ledger.specs.declared.handled.Handled.{Handled}
 use Rattle.coordinator.specs.Held.{ledger}
 use Rattle.coordinator.specs.Seen.{Seen}
 use Rattle.coordinator.specs.Settling.{TakesUp}
@@ -15,7 +15,7 @@ use Rattle.protocol.specs.Farm.{farm_limits}
 use Rattle.protocol.specs.Ledger.{Ledger}
 use Rattle.protocol.specs.Lists.{In}
 use Rattle.protocol.specs.Machine.{Said, Told}
-use Rattle.protocol.specs.declared.answer.CoordRefusal.{CoordRefusal}
+use Rattle.events.specs.declared.answer.CoordRefusal.{CoordRefusal}
 use Rattle.protocol.specs.Processes.{Coordinator, Processes, Runs}
 use Rattle.saverecord.specs.Logs.{saved_in}
 use Rattle.saverecord.specs.Texts.{Texts}

@@ -1,11 +1,11 @@
 -- What a coordinator's filter writes (this project's own). The words of notes and refusals are those of a replay.
 use Rattle.std.specs.Prelude.{◌≡◌, ℕ, true, false, List, [], ◌++◌, codes, decimal, map, Option, Some, None, Result, Ok, Err, ⊤}
 use Rattle.std.specs.List.{flat_map}
-use Rattle.coordinator.specs.declared.handled.Handled.{Handled}
+use Rattle.ledger.specs.declared.handled.Handled.{Handled}
 use Rattle.coordinator.specs.Seen.{Seen}
 use Rattle.coordinator.specs.Settling.{Restarts, Syncs}
-use Rattle.protocol.specs.declared.answer.CoordNote.{CoordNote}
-use Rattle.protocol.specs.declared.answer.CoordRefusal.{CoordRefusal}
+use Rattle.events.specs.declared.answer.CoordNote.{CoordNote}
+use Rattle.events.specs.declared.answer.CoordRefusal.{CoordRefusal}
 use Rattle.protocol.specs.Machine.{Told}
 use Rattle.saverecord.specs.Texts.{Texts}
 use Rattle.schedule.specs.Notes.{coord_note_text}

@@ -1,7 +1,8 @@
 //! Calls that are carried out.
 ghost use Rattle.std.specs.Prelude.{◌≡◌, IfOk, OnErr};
 ghost use Rattle.coordinator.specs.Held.{ledger, life_at};
-ghost use Rattle.coordinator.specs.Settling.{Settles, is_save_fault};
+ghost use Rattle.coordinator.specs.Settling.{Settles};
+ghost use Rattle.ledger.specs.Settling.{is_save_fault};
 ghost use Rattle.protocol.specs.Farm.{farm_limits};
 ghost use Rattle.protocol.specs.Processes.{decided};
 ghost use Rattle.coordinatorlines.specs.Calls.{called, MayBeMade};
@@ -10,8 +11,8 @@ ghost use Rattle.coordinatorfilter.specs.Carried.{RestartsIf, OnlyRestarts, ends
 use super::reply::{Ended, Over, Reply};
 use coordinator::{Coordinator, Handled};
 use coordinatorlines::Call;
+use events::{CoordNote, CoordRefusal};
 use farm_base::{Items, Lease, Life, NodeId, NodeLife, ToCoord};
-use protocol::{CoordNote, CoordRefusal};
 use saverecord::Keeper;
 use std::alloc::{AllocError, Global};
 

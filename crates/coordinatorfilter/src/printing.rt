@@ -8,9 +8,9 @@ ghost use Rattle.coordinatorfilter.specs.Written.{restart_lines, ended_line, ove
 
 use super::reply::{Ended, Over, Reply};
 use coordinator::Handled;
+use events::{CoordNote, CoordRefusal, EventNote, EventRefusal};
 use farm_base::{FromCoord, Items, Message, ToNode};
 use farmwire::FarmKey;
-use protocol::{CoordNote, CoordRefusal, EventNote, EventRefusal};
 use schedule::{print_note, refusal_name};
 use services::push_messages;
 use std::alloc::{AllocError, Global};

@@ -1,6 +1,6 @@
 use coordinator::Handled;
+use events::CoordRefusal;
 use farm_base::{Items, Life, NodeId, Ticket};
-use protocol::CoordRefusal;
 
 /// Why a process isn't heard.
 #[derive(Clone, Copy)]

@@ -2,7 +2,7 @@
 use Rattle.std.proofs.Common.{◌≡◌, None, Ok, Option, Some, Result, List, ◌++◌, sym, ap, true, ◌∙◌, subst}
 use Rattle.protocol.specs.Machine.{News, digest_for, version_of}
 use Rattle.protocol.specs.Ledger.{Work, commits, without}
-use Rattle.protocol.specs.declared.answer.CoordRefusal.{CoordRefusal}
+use Rattle.events.specs.declared.answer.CoordRefusal.{CoordRefusal}
 use Rattle.std.specs.Prelude.{map}
 use Rattle.versions.specs.Additions.{IsReady}
 use Rattle.versions.specs.Lines.{LineOf, line_at, lines_with, news_of}

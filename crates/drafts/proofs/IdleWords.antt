@@ -9,7 +9,7 @@ use Rattle.protocol.specs.Lists.{In}
 use Rattle.protocol.specs.Names.{Slot, slot_eq, is_private, only_slot, FolderName, Ticket, Want, leased_wants, wants_shared}
 use Rattle.protocol.specs.Machine.{Parked}
 use Rattle.protocol.specs.Ledger.{Limits, Ledger, Lease, Work, pick, elsewhere, another, all_taken, busy, lowest, is_free, is_leased, some_lease, has_slot, has_ticket, lease_under, without, decision, tried, stays, try_all, waiting}
-use Rattle.protocol.specs.declared.answer.Decision.TheVariants.{Wait}
+use Rattle.events.specs.declared.answer.Decision.TheVariants.{Wait}
 use Rattle.leaseindex.specs.Endings.{ends_lease}
 use Rattle.leases.specs.Changes.{slots_ended}
 use Rattle.holdings.specs.Leases.{IsBefore}

@@ -6,9 +6,9 @@ use Rattle.std.proofs.lemmas.List.Elements.{All-filter}
 use Rattle.farm_base.specs.Wanted.{IsWants}
 use Rattle.leases.specs.Table.{retires_some}
 use Rattle.protocol.specs.Names.{NodeId, Ticket}
-use Rattle.protocol.specs.declared.answer.CoordNote.TheVariants as note
-use Rattle.protocol.specs.declared.answer.CoordRefusal.{CoordRefusal}
-use Rattle.protocol.specs.declared.answer.CoordRefusal.TheVariants as refusal
+use Rattle.events.specs.declared.answer.CoordNote.TheVariants as note
+use Rattle.events.specs.declared.answer.CoordRefusal.{CoordRefusal}
+use Rattle.events.specs.declared.answer.CoordRefusal.TheVariants as refusal
 use Rattle.protocol.specs.Ledger.{Limits, Lease, Work, without, lease_under, has_ticket, retried, notes, withdraws, withdrawing, withdrawn, is_at, is_home, goes, retired}
 use Rattle.drafts.specs.Shown.{saved_under, withdraws_under}
 use Rattle.drafts.specs.Sound.{IsSound}

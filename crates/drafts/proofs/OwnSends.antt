@@ -3,7 +3,7 @@ use Rattle.std.proofs.Common.{◌≡◌, ◌≤◌, eqb, not, length, None, Resu
 use Rattle.std.specs.List.{list_any}
 use Rattle.std.specs.Result.{result_err}
 use Rattle.protocol.specs.Names.{NodeId, Slot, Ticket}
-use Rattle.protocol.specs.declared.answer.CoordRefusal.{CoordRefusal}
+use Rattle.events.specs.declared.answer.CoordRefusal.{CoordRefusal}
 use Rattle.protocol.specs.Ledger.{Limits, Ledger, Work, begin_work, retried, withdraws, withdrawn, is_at, goes, retired, pruned}
 use Rattle.drafts.proofs.Sends.{weight, retried_few, lighter, filter_length}
 use Rattle.drafts.proofs.OwnCalls.{withdrawal, retirement}

@@ -10,9 +10,9 @@ use Rattle.farm_base.proofs.CompareLaws as laws
 use Rattle.protocol.specs.Lists.{is_nil}
 use Rattle.protocol.specs.Names.{Slot, slot_eq, Ticket, Digest}
 use Rattle.protocol.specs.Machine.{News, LineVersion, digest_for, version_of}
-use Rattle.protocol.specs.declared.answer.CoordNote.TheVariants as note
-use Rattle.protocol.specs.declared.answer.CoordRefusal.{CoordRefusal}
-use Rattle.protocol.specs.declared.answer.CoordRefusal.TheVariants as refusal
+use Rattle.events.specs.declared.answer.CoordNote.TheVariants as note
+use Rattle.events.specs.declared.answer.CoordRefusal.{CoordRefusal}
+use Rattle.events.specs.declared.answer.CoordRefusal.TheVariants as refusal
 use Rattle.protocol.specs.Ledger.{Limits, Ledger, Work, has_slot, is_leased, notes, prunes, pruned}
 use Rattle.versions.specs.declared.lines.Addition.{Addition}
 use Rattle.versions.specs.declared.lines.Added.{Added}

@@ -9,8 +9,8 @@ use Rattle.protocol.specs.Lists.{is_nil}
 use Rattle.protocol.specs.Names.{NodeId, Life, Ticket}
 use Rattle.protocol.specs.Machine.{ToCoord, Parked, News}
 use Rattle.protocol.specs.Ledger.{Limits, Ledger, Work, Lease, begin_work, decision, gives, denies, carried_out, waits, tried, stays, try_all, waiting, retried, recall, recalls, elsewhere, holds_wanted, decided, lease_of, is_parked, grant_of, acquiring, may_commit, may_release, lease_under, commits, confirms, answered, committing, on_all, released, ends, answering, is_older, is_older_ask, is_home, sees, newer_life, handled}
-use Rattle.protocol.specs.declared.answer.Decision.{Decision}
-use Rattle.protocol.specs.declared.answer.Decision.TheVariants.{Give, Deny, Wait}
+use Rattle.events.specs.declared.answer.Decision.{Decision}
+use Rattle.events.specs.declared.answer.Decision.TheVariants.{Give, Deny, Wait}
 
 -- one message more
 gives_one : (k : Limits) (p : Parked) (w : Work) → length (gives k p w).sends ≡ length w.sends + 1

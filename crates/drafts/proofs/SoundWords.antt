@@ -20,8 +20,8 @@ use Rattle.protocol.specs.Names.{Slot, slot_eq, slots_eq, NodeId, Life, Ticket, 
 use Rattle.protocol.specs.Lists.{is_nil}
 use Rattle.protocol.specs.Machine.{News, LineVersion, Parked, ToCoord, slots_of, digest_for, version_of}
 use Rattle.protocol.specs.Ledger.{Limits, Ledger, Lease, Work, pick, elsewhere, is_free, some_lease, has_slot, writable_slots, decision, gives, lease_for, carried_out, tried, stays, try_all, waiting, parks, retried, recall, recalls, holds_wanted, decided, acquiring, has_ticket, lease_under, lease_of, is_parked, without, ends, commits, confirms, may_commit, may_release, is_its, on_all, answered, committing, released, answering, is_older, is_older_ask, sees, newer_life, is_home, handled}
-use Rattle.protocol.specs.declared.answer.Decision.{Decision}
-use Rattle.protocol.specs.declared.answer.Decision.TheVariants.{Give, Deny, Wait}
+use Rattle.events.specs.declared.answer.Decision.{Decision}
+use Rattle.events.specs.declared.answer.Decision.TheVariants.{Give, Deny, Wait}
 use Rattle.versions.specs.declared.lines.Addition.{Addition}
 use Rattle.versions.specs.declared.lines.SlotLine.{SlotLine}
 use Rattle.drafts.specs.Held.{line_at}

@@ -11,8 +11,8 @@ use Rattle.protocol.specs.Names.{FolderName, Slot, Want, slot_eq, is_private, le
 use Rattle.protocol.specs.Machine.{Parked}
 use Rattle.protocol.specs.Ledger.{Limits, Work, Lease, has_slot, some_lease, lowest, slot_for, decision, lease_for, gives, carried_out, tried}
 use Rattle.protocol.specs.Ledger.{is_free as is_free_in}
-use Rattle.protocol.specs.declared.answer.Decision.{Decision}
-use Rattle.protocol.specs.declared.answer.Decision.TheVariants.{Give, Deny, Wait}
+use Rattle.events.specs.declared.answer.Decision.{Decision}
+use Rattle.events.specs.declared.answer.Decision.TheVariants.{Give, Deny, Wait}
 use Rattle.protocol.proofs.Base.{true_false, slot_eq_same, slot_eq_is, any_in, from_any, from_map, in_append, in_one, from_filter}
 use Rattle.leases.specs.Changes.{Change, changed}
 use Rattle.leaseindex.specs.Endings.{has_ended}

@@ -9,7 +9,7 @@ use Rattle.leases.specs.Table.{first_fit}
 use Rattle.protocol.specs.Names.{slots_eq, leased_wants}
 use Rattle.protocol.specs.Machine.{News, slots_of, Parked}
 use Rattle.protocol.specs.Ledger.{Limits, Ledger, pick, decision, elsewhere, all_taken, busy, is_free, is_leased}
-use Rattle.protocol.specs.declared.answer.Decision.TheVariants.{Give, Deny, Wait}
+use Rattle.events.specs.declared.answer.Decision.TheVariants.{Give, Deny, Wait}
 
 pub decision-is : (k : Limits) (q : Ledger) (p : Parked) → decision k q p ≡ pick (elsewhere q p) (all_taken k.instances (is_free q) (leased_wants p.tenure p.wants)) (busy (is_leased q) (leased_wants p.tenure p.wants)) (not (nat_lt q.last k.greatest))
 unfolding decision

@@ -5,11 +5,11 @@ use Rattle.std.specs.Prelude.{is_some, nat_lt}
 use Rattle.std.specs.List.{list_any}
 use Rattle.std.proofs.lemmas.Bool.Decides.{nat_tests}
 use Rattle.protocol.specs.Names.{NodeId, Life, Ticket}
-use Rattle.protocol.specs.declared.answer.CoordNote.TheVariants as note
+use Rattle.events.specs.declared.answer.CoordNote.TheVariants as note
 use Rattle.protocol.specs.Machine.{Parked, ToCoord}
 use Rattle.protocol.specs.Ledger.{Limits, Work, decision, carried_out, waits, tried, stays, try_all, waiting, retried, parks, gives, notes, Lease, acquiring, decided, is_older, is_home, newer_life, sees, may_release, released, ends, lease_under, has_ticket, without, answering, handled}
-use Rattle.protocol.specs.declared.answer.Decision.{Decision}
-use Rattle.protocol.specs.declared.answer.Decision.TheVariants.{Give, Deny, Wait}
+use Rattle.events.specs.declared.answer.Decision.{Decision}
+use Rattle.events.specs.declared.answer.Decision.TheVariants.{Give, Deny, Wait}
 use Rattle.drafts.specs.Shown.{ended, saved_under}
 
 pub tried-is : (k : Limits) (p : Parked) (w : Work) (d : Decision) → decision k w.ledger p ≡ d → tried k p w ≡ carried_out k d p w

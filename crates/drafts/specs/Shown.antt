@@ -10,7 +10,7 @@ use Rattle.holdings.specs.Leases.{among}
 use Rattle.leases.specs.Table.{retires_some}
 pub use Rattle.versions.specs.Lines.{LineOf, lines_with}
 use Rattle.versions.specs.Additions.{IsReady}
-use Rattle.protocol.specs.declared.answer.CoordRefusal.{CoordRefusal}
+use Rattle.events.specs.declared.answer.CoordRefusal.{CoordRefusal}
 use Rattle.drafts.specs.declared.change.Change.{Change}
 use Rattle.drafts.specs.declared.new_life.NewLife.{NewLife}
 use Rattle.drafts.specs.declared.draft.Draft.{Draft}

@@ -21,13 +21,13 @@ ghost use Rattle.versions.specs.Lines.{lines_with, room_needed};
 use super::effects::{Effects, Prepared};
 use super::new_life::NewLife;
 use super::state::{State, cleared, grant_of, is_home, is_some_saved};
+use events::{CoordNote, Decision};
 use farm_base::{
     Copied, FromCoord, Grant, Items, Life, News, NodeId, Parked, Request, Slot, Ticket, ToCoord,
     Why,
 };
 use leases::Ending;
 use parked::{Over, ParkedChange, split_over, take_out, without_first};
-use protocol::{CoordNote, Decision};
 use std::alloc::{AllocError, Global};
 use std::mem;
 use versions::{Added, additions, all_stand, confirmed};

@@ -1,8 +1,8 @@
 //! What an event changes, adds to the lines, sends and tells.
-ghost use Rattle.std.specs.Prelude.{◌≡◌, ◌≢◌, ◌≤◌, All, IfOk, OnOk};
+ghost use Rattle.std.specs.Prelude.{◌≡◌, ◌≢◌, ◌≤◌, ◌||◌, All, IfOk, OnOk};
 ghost use Rattle.farm_base.specs.Contents.{empty_digest};
 ghost use Rattle.protocol.specs.Farm.{farm_limits};
-ghost use Rattle.protocol.specs.Ledger.{begin_work, gives, grant_of, lease_for};
+ghost use Rattle.protocol.specs.Ledger.{begin_work, gives, grant_of, is_saved, lease_for};
 ghost use Rattle.leases.specs.Table.{fit_of};
 ghost use Rattle.leases.specs.declared.lease_table.Fit.{Fit};
 ghost use Rattle.drafts.specs.Held.{ledger};
@@ -11,9 +11,9 @@ ghost use Rattle.drafts.specs.Shown.{work_of, table_after, lines_with, IsFresh};
 
 use super::change::Change;
 use super::state::{State, grant_of};
-use farm_base::{Copied, FromCoord, Grant, Parked};
+use events::CoordNote;
+use farm_base::{Copied, FromCoord, Grant, Lease, Parked};
 use holdings::is_saved;
-use protocol::CoordNote;
 use std::alloc::{AllocError, Global};
 use versions::{Added, SlotLine};
 
@@ -26,6 +26,13 @@ pub struct Effects {
     /// Whether the record changes.
     pub changed: bool,
     pub note: CoordNote,
+}
+
+/// Whether the record changes: it did before, the ticket of a lease needs a block that isn't saved, or the record has the lease.
+fn changes_record(changed: bool, needs_block: bool, lease: &Lease) -> bool
+    ensures { result ≡ (changed || needs_block || is_saved lease.now) }
+{
+    changed || needs_block || is_saved(lease)
 }
 
 impl Effects {
@@ -69,7 +76,7 @@ impl Effects {
             unreachable!();
         };
         let grant = grant_of(alloc, &base.lines, &self.added, lease)?;
-        self.changed = self.changed || needs_block || is_saved(lease);
+        self.changed = changes_record(self.changed, needs_block, lease);
         self.sends.push(FromCoord::Granted(grant.copy(alloc)?))?;
         Ok(grant)
     }

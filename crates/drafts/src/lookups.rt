@@ -19,10 +19,10 @@ ghost use Rattle.parked.specs.Waiting.{ends_ask};
 use super::change::keep_open;
 use super::draft::Draft;
 use super::state::fit_slots;
+use events::Decision;
 use farm_base::{Copied, Life, News, NodeId, Parked, Slot, Ticket, Want, Why};
 use leases::{Ending, Fit, TableView};
 use parked::{SpentFolders, first_over};
-use protocol::Decision;
 use std::alloc::{AllocError, Global};
 
 impl<'s> Draft<'s> {

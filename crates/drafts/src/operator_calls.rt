@@ -16,9 +16,9 @@ ghost use Rattle.drafts.specs.Sound.{IsSound};
 
 use super::draft::Draft;
 use super::state::{State, grant_of, is_some_saved};
+use events::CoordNote;
 use farm_base::{Copied, FromCoord, Lease, News, NodeId, Parked, Slot, Ticket, empty_digest};
 use leases::{Ending, holds_wanted};
-use protocol::CoordNote;
 use std::alloc::{AllocError, Global};
 use versions::{Added, Addition, Lines, additions};
 

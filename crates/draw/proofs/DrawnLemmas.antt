@@ -6,7 +6,7 @@ use Rattle.std.specs.declared.alloc.AllocError.{AllocError}
 use Rattle.std.specs.declared.alloc.Global.{Global}
 use Rattle.std.specs.declared.string.String.{String}
 use Rattle.protocol.specs.Replay.{Farm}
-use Rattle.protocol.specs.declared.event.Event.{Event}
+use Rattle.events.specs.declared.event.Event.{Event}
 use Rattle.world.specs.Printing.{ArePrinted}
 use Rattle.draw.specs.declared.page.Extent.{Extent}
 use Rattle.draw.specs.declared.range.Range.{Range}

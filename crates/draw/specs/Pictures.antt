@@ -6,10 +6,10 @@ use Rattle.farm_base.specs.declared.message.Message.{Message}
 use Rattle.protocol.specs.Farm.{farm_limits}
 use Rattle.protocol.specs.Lists.{nth}
 use Rattle.protocol.specs.Replay.{Farm, step, run, opening}
-use Rattle.protocol.specs.declared.event.Event.{Event}
-use Rattle.protocol.specs.declared.event.Event.TheVariants as event
-use Rattle.protocol.specs.declared.answer.Outcome.{Outcome}
-use Rattle.protocol.specs.declared.answer.EventRefusal.{EventRefusal}
+use Rattle.events.specs.declared.event.Event.{Event}
+use Rattle.events.specs.declared.event.Event.TheVariants as event
+use Rattle.events.specs.declared.answer.Outcome.{Outcome}
+use Rattle.events.specs.declared.answer.EventRefusal.{EventRefusal}
 use Rattle.schedule.specs.Printing.{outcome_text}
 use Rattle.draw.specs.declared.frame.Sent.{Sent}
 use Rattle.draw.specs.declared.frame.Done.TheVariants as done

@@ -4,8 +4,8 @@ ghost use Rattle.std.specs.Option.{option_copied};
 ghost use Rattle.draw.specs.Events.{addressee, coord_done, node_done, note_done, done_of, taken_of, held_of};
 
 use super::frame::{Done, Held};
+use events::{CoordNote, CoordRefusal, Event, EventNote, EventRefusal, NodeNote, Outcome};
 use farm_base::{Items, Lease, Message};
-use protocol::{CoordNote, CoordRefusal, Event, EventNote, EventRefusal, NodeNote, Outcome};
 use std::alloc::{AllocError, Global};
 
 /// The lifeline of whom a message is for.

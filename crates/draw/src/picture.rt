@@ -9,8 +9,8 @@ ghost use Rattle.draw.specs.Pictures.{actor_of, sent_after, framed, frame_of, fi
 
 use super::event::{addressee, done_of, held_of, taken_of};
 use super::frame::{Done, Frame, Sent};
+use events::{Event, EventRefusal, Outcome};
 use farm_base::{Copied, Items, Text};
-use protocol::{Event, EventRefusal, Outcome};
 use schedule::{Setup, print_outcome};
 use std::alloc::{AllocError, Global};
 use world::{StartRefusal, World};

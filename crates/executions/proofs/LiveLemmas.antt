@@ -15,11 +15,12 @@ use Rattle.farm_base.proofs.NameLaws.{folder_exact}
 use Rattle.farm_base.specs.Folders.{folder_eq}
 use Rattle.folders.specs.Edits.{edited_all}
 use Rattle.folders.specs.Files.{Files}
-use Rattle.executions.specs.declared.batch.Batch.{Batch}
+use Rattle.slotfolders.specs.declared.batch.Batch.{Batch}
 use Rattle.executions.specs.declared.live_shared.Open.{Open}
 use Rattle.executions.specs.Leased.{leased}
-use Rattle.executions.specs.Seen.{folder_at}
-use Rattle.executions.specs.Live.{is_named, is_by, with_batch, files_of}
+use Rattle.slotfolders.specs.Seen.{folder_at}
+use Rattle.slotfolders.specs.Batches.{is_by, with_batch}
+use Rattle.executions.specs.Live.{is_named, files_of}
 use Rattle.executions.specs.Keeping.{opened, AreOnce, IsAsMade, IsKept}
 
 -- ---- what is found

@@ -15,7 +15,7 @@ use Rattle.solverkeys.specs.Keyed.{KeyedParts}
 use Rattle.cachemounts.specs.declared.viewing.CacheView.{CacheView}
 use Rattle.cachemounts.specs.CacheViews.{AreViews}
 use Rattle.folders.specs.Files.{Files}
-use Rattle.jobs.specs.declared.entry.Task.{Task}
+use Rattle.jobs.specs.declared.task.Task.{Task}
 use Rattle.executions.specs.declared.call.ExecOutcome.{ExecOutcome}
 use Rattle.executions.specs.declared.task.View.{View}
 use Rattle.executions.specs.TaskParts.{TaskParts}

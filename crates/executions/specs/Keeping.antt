@@ -1,6 +1,6 @@
 -- What is kept of the SHARED folders that are open.
 use Rattle.std.specs.Prelude.{⊤, ◌≡◌, ℕ, ◌≤◌, List, length, Some, slice_get}
-use Rattle.executions.specs.declared.batch.Batch.{Batch}
+use Rattle.slotfolders.specs.declared.batch.Batch.{Batch}
 use Rattle.executions.specs.declared.live_shared.Open.{Open}
 use Rattle.executions.specs.declared.refusal.SharedRefusal.{SharedRefusal}
 use Rattle.executions.specs.declared.refusal.SharedRefusal.TheVariants.{Twice, TooLarge, OutOfMemory, NotOpen, BadContents}

@@ -3,7 +3,7 @@ use Rattle.std.specs.Prelude.{List, []}
 use Rattle.std.specs.List.{zip}
 use Rattle.std.specs.Result.{result_unwrap_or}
 use Rattle.farmboard.specs.declared.tokens.Running.{Running}
-use Rattle.executions.specs.Seen.{LeasedContent, Named, read_all}
+use Rattle.slotfolders.specs.Seen.{LeasedContent, Named, read_all}
 
 -- the slots of a lease, each with the content that it began from
 abbrev pub held : Running → List LeasedContent

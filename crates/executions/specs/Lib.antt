@@ -1,6 +1,5 @@
 pub mod TaskParts
 pub mod Calls
-pub mod Seen
 pub mod Left
 pub mod Refusals
 pub mod Leased

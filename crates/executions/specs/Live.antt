@@ -1,5 +1,5 @@
 -- The SHARED folders that a node has open, and the batches that changed them (this project's own).
-use Rattle.std.specs.Prelude.{⊤, ◌≡◌, ℕ, ◌<◌, Bool, true, false, ◌==◌, ◌&&◌, List, [], ◌∷◌, ◌++◌, length, drop, if◌then◌else◌, Option, Some, None, Result, Ok, Err, slice_get}
+use Rattle.std.specs.Prelude.{⊤, ◌≡◌, ℕ, ◌<◌, Bool, true, false, List, [], ◌∷◌, ◌++◌, length, drop, Option, Some, None, Result, Ok, Err, slice_get}
 use Rattle.std.specs.List.{fold, find, list_any, remove}
 use Rattle.std.specs.Option.{option_map}
 use Rattle.farm_base.specs.declared.folder.FolderName.{FolderName}
@@ -11,11 +11,12 @@ use Rattle.folders.specs.declared.edit.Edit.{Edit}
 use Rattle.folders.specs.Edits.{edited_all}
 use Rattle.folders.specs.Files.{Files, folder_bytes, most_bytes}
 use Rattle.farmboard.specs.declared.tokens.Running.{Running}
-use Rattle.executions.specs.declared.batch.Batch.{Batch}
+use Rattle.slotfolders.specs.declared.batch.Batch.{Batch}
 use Rattle.executions.specs.declared.refusal.SharedRefusal.{SharedRefusal}
 use Rattle.executions.specs.declared.refusal.SharedRefusal.TheVariants.{Twice, TooLarge, OutOfMemory, NotOpen, BadContents}
+use Rattle.slotfolders.specs.Batches.{batch, with_batch, is_by}
 use Rattle.executions.specs.Leased.{held, leased}
-use Rattle.executions.specs.Seen.{folder_at, read_all}
+use Rattle.slotfolders.specs.Seen.{folder_at, read_all}
 
 -- a folder that is open: the execution of its tenure, and how many batches there were when it was opened
 pub record Opened : Type 0 where
@@ -28,13 +29,6 @@ pub record Live : Type 0 where
   pub batches : List Batch
   pub folders : List Opened
 
-abbrev pub batch : Ticket → FolderName → List Edit → Batch
-batch ticket folder edits = record { ticket = ticket; folder = folder; edits = edits }
-
--- a folder after a batch, which changes it if it is of that folder
-abbrev pub with_batch : FolderName → Files → Batch → Files
-with_batch name files b = if folder_eq name b.folder then edited_all files b.edits else files
-
 -- an open folder: what its tenure began with, and then the batches since it was opened, one after the other
 abbrev pub files_of : List Batch → Opened → Files
 files_of batches o = fold (with_batch o.folder) (folder_at (leased o.running) o.folder) (drop o.since batches)
@@ -45,10 +39,6 @@ is_named name o = folder_eq name o.folder
 -- the open folder of a name, if there is one
 abbrev pub files_in : Live → FolderName → Option Files
 files_in live name = option_map (files_of live.batches) (find (is_named name) live.folders)
-
--- the batch is of this ticket and folder
-abbrev pub is_by : Ticket → FolderName → Batch → Bool
-is_by ticket name b = (b.ticket.0 == ticket.0) && folder_eq name b.folder
 
 -- the ticket changed the folder before
 abbrev pub has_changed : Live → Ticket → FolderName → Bool

@@ -7,15 +7,15 @@ ghost use Rattle.cachemounts.specs.declared.viewing.CacheView.{CacheView as Spec
 ghost use Rattle.cachemounts.specs.CacheViews.{IsView};
 ghost use Rattle.cachemounts.specs.CacheWants.{AreWants};
 ghost use Rattle.executions.specs.Given.{command_in, output_at, IsViewAt, IsGiven};
-ghost use Rattle.executions.specs.Seen.{folder_seen};
+ghost use Rattle.slotfolders.specs.Seen.{folder_seen};
 
-use super::seen::Seen;
 use super::task::{ExecTask, View};
 use cachemounts::{CacheView, views};
 use farm_base::{Copied, Digest, Items, Want, Wants};
 use jobs::Task;
 use opsproto::{Kind, Mount};
 use protowire::SharedBytes;
+use slotfolders::Seen;
 use solverkeys::Keyed;
 use std::alloc::{AllocError, Global};
 

@@ -1,7 +1,6 @@
 //! One execution under a lease.
 #![tactic(auto)]
 
-mod batch;
 mod call;
 mod executor;
 mod given;
@@ -10,14 +9,13 @@ mod live_shared;
 mod node_key;
 mod refusal;
 mod run;
-mod seen;
 mod task;
 
-pub use batch::Batch;
 pub use call::{Call, ExecOutcome};
 pub use executor::{Executor, Gate, OpenGate};
 pub use live_shared::LiveShared;
 pub use node_key::NodeKey;
-pub use refusal::{RunRefusal, SharedRefusal};
+pub use refusal::SharedRefusal;
 pub use run::{Ran, run_leased};
+pub use slotfolders::{Batch, RunRefusal};
 pub use task::{ExecTask, View};

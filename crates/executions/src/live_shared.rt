@@ -1,22 +1,21 @@
 //! The SHARED folders that a node has open.
 ghost use Rattle.std.specs.Prelude.{◌≡◌, ◌<◌, [], map, length, Some, None, Err, slice_get, set, vec_len, IfOk, IfErr, IfSome, IfNone, OnErr, OnOk, is_some};
-ghost use Rattle.std.specs.List.{find, list_any};
+ghost use Rattle.std.specs.List.{find};
 ghost use Rattle.farm_base.specs.Slots.{SlotParts};
 ghost use Rattle.farm_base.specs.declared.folder.FolderName.{FolderName as Name};
 ghost use Rattle.folders.specs.Edits.{edited_all};
 ghost use Rattle.folders.specs.Files.{folder_bytes, most_bytes};
 ghost use Rattle.executions.specs.declared.live_shared.Open.{Open as SpecOpen};
 ghost use Rattle.executions.specs.Leased.{held, leased};
-ghost use Rattle.executions.specs.Seen.{folder_at, read_all};
-ghost use Rattle.executions.specs.Live.{is_named, is_by, files_in, IsTenureOf, Opens, Views, Applies, Closes, Pops};
+ghost use Rattle.slotfolders.specs.Seen.{folder_at, read_all};
+ghost use Rattle.executions.specs.Live.{is_named, files_in, IsTenureOf, Opens, Views, Applies, Closes, Pops};
 ghost use Rattle.executions.specs.Keeping.{opened, AreOnce, IsFirstRefusal};
 
-use super::batch::Batch;
-use super::refusal::{RunRefusal, SharedRefusal};
-use super::seen::{find, read_leased};
+use super::refusal::SharedRefusal;
 use farm_base::{Content, Copied, FolderName, Items, Ticket};
 use farmboard::Running;
 use folders::{Edit, EditRefusal, Folder};
+use slotfolders::{Batch, RunRefusal, find, has_changed, read_leased};
 use std::alloc::{AllocError, Global};
 use std::marker::Model;
 
@@ -61,15 +60,6 @@ fn place_of(folders: &[Open], name: &FolderName) -> Option<usize>
         }
     }
     None
-}
-
-/// Whether a batch is of this ticket and folder.
-fn has_changed(batches: &[Batch], ticket: Ticket, name: &FolderName) -> bool
-    ensures { result ≡ list_any (is_by ticket name.now) batches.now }
-{
-    batches
-        .iter()
-        .any(|batch| batch.ticket == ticket && *name == batch.folder)
 }
 
 impl LiveShared {

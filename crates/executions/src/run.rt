@@ -8,7 +8,7 @@ ghost use Rattle.cachemounts.specs.CacheWants.{AreWants};
 ghost use Rattle.executions.specs.declared.call.ExecOutcome.{ExecOutcome as AnyOutcome};
 ghost use Rattle.executions.specs.Calls.{Adds, MadeOneAtMost, IsAnswer};
 ghost use Rattle.executions.specs.Leased.{held, leased};
-ghost use Rattle.executions.specs.Seen.{read_all, folder_seen};
+ghost use Rattle.slotfolders.specs.Seen.{read_all, folder_seen};
 ghost use Rattle.executions.specs.Given.{IsGiven, Answered};
 ghost use Rattle.executions.specs.Left.{is_fit, news_of};
 
@@ -16,12 +16,11 @@ use super::call::ExecOutcome;
 use super::executor::Executor;
 use super::given::given;
 use super::left::news_of;
-use super::refusal::RunRefusal;
-use super::seen::{Seen, read_leased};
-use farm_base::{FolderName, Items, Left, Wants};
+use farm_base::{FolderName, Left, Wants};
 use farmboard::Running;
 use folders::Folder;
 use jobs::Task;
+use slotfolders::{RunRefusal, Seen};
 use solverkeys::Keyed;
 use std::alloc::{AllocError, Global};
 
@@ -89,11 +88,7 @@ pub fn run_leased(
         × (is_fit (folder_seen (leased running.now) shared.items) running.now.wants outcome ≡ false) }
 {
     let slots = running.grant().slots.as_slice();
-    let seen = Seen {
-        leased: read_leased(alloc, slots, running.bases())?,
-        shared: Items::new(shared),
-        empty: Folder::new(alloc),
-    };
+    let seen = Seen::of(alloc, slots, running.bases(), shared)?;
     let outcome = answer(alloc, executor, &seen, running.wants(), task, keyed, vertex)?;
     let news = news_of(alloc, &seen, running.wants().as_slice(), slots, &outcome)?;
     Ok(Ran { outcome, news })

@@ -4,19 +4,19 @@ use denote.Struct.Declared.{shape}
 use Rattle.std.proofs.Crossing.{crosses}
 use Rattle.std.proofs.MapsCrossing as maps
 use Rattle.farm_base.specs.contracts.message.Message as Message
-use Rattle.protocol.specs.contracts.event.Event as Event
+use Rattle.events.specs.contracts.event.Event as Event
 use Rattle.folders.specs.contracts.folder.Folder as Folder
 use Rattle.farmboard.specs.contracts.tokens.Running as Running
-use Rattle.executions.specs.contracts.batch.Batch as Batch
+use Rattle.slotfolders.specs.contracts.batch.Batch as Batch
 use Rattle.executions.specs.contracts.live_shared.Open as Open
 use Rattle.nodeasks.specs.contracts.all_asks.AllAsks as AllAsks
 use Rattle.nodeasks.specs.contracts.ask_row.AskRow as AskRow
 use Rattle.nodeasks.specs.contracts.ask_table.AskTable as AskTable
-use Rattle.nodecore.specs.contracts.stored.StoredContents as StoredContents
+use Rattle.nodecontents.specs.contracts.stored.StoredContents as StoredContents
 use Rattle.nodeasks.specs.contracts.ticket_index.TicketIndex as TicketIndex
 use Rattle.nodecore.specs.contracts.node_core.NodeCore as NodeCore
 use Rattle.saverecord.specs.contracts.keeper.MemoryKeeper as MemoryKeeper
-use Rattle.coordinator.specs.contracts.ledger.Ledger as Ledger
+use Rattle.ledger.specs.contracts.ledger.Ledger as Ledger
 use Rattle.world.specs.contracts.world.World as World
 use Rattle.farmboard.specs.contracts.board.Board as Board
 use Rattle.farmboard.specs.contracts.board.Board.TheInside as Inside

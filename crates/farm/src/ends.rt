@@ -1,17 +1,10 @@
 //! What a run leaves.
+use super::solved::FailedJob;
+use events::Event;
 use executions::Executor;
 use farmboard::Receipt;
-use jobs::{Answer, Cause};
-use protocol::Event;
+use jobs::Answer;
 use solving::FarmFault;
-
-/// A job that failed, and why.
-#[derive(Drop)]
-pub struct FailedJob {
-    /// Its place among the jobs, from 0.
-    pub place: usize,
-    pub cause: Cause,
-}
 
 /// What a run of many executors leaves.
 #[derive(Drop)]

@@ -16,11 +16,13 @@ mod opening;
 mod plan;
 mod router;
 mod signals;
+mod solved;
 mod threads;
 mod worker;
 mod worker_steps;
 
 pub use down::DownCount;
-pub use ends::{FailedJob, FarmEnd, FarmLeft, FarmStop};
+pub use ends::{FarmEnd, FarmLeft, FarmStop};
 pub use one::Farm;
+pub use solved::FailedJob;
 pub use solving::{FarmFault, OneEnd};

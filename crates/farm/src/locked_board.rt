@@ -2,11 +2,11 @@
 ghost use Rattle.std.specs.Prelude.{◌≡◌, IfOk, IfSome};
 ghost use Rattle.protocol.specs.Names.{tenure_wants};
 
+use events::{EventNote, EventRefusal, NodeNote, NodeRefusal};
 use farm_base::{Copied, EVENTS, FolderName, Left, Mode, NodeId, Wants};
 use farmboard::{
     Asked, Board, BoardRefusal, Finished, Granted, Running, abandon_granted, abandon_running,
 };
-use protocol::{EventNote, EventRefusal, NodeNote, NodeRefusal};
 use solving::{FarmFault, board_fault};
 use std::alloc::{AllocError, Global};
 use tenures::{Ends, Tenures};

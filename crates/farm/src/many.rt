@@ -7,158 +7,27 @@ ghost use Rattle.executions.specs.Calls.{Grew};
 ghost use Rattle.farm.specs.Ends.{failed_in};
 ghost use Rattle.solving.specs.Faults.{is_bare};
 ghost use Rattle.solving.specs.Setups.{is_staffed};
-ghost use Rattle.solving.specs.Works.{jobs_of};
-ghost use Rattle.farmend.specs.Answers.{AreAnswered, IsAnswered};
-ghost use Rattle.farmend.specs.NewCalls.{new_calls};
+ghost use Rattle.reasons.specs.Answers.{AreAnswered, IsAnswered};
+ghost use Rattle.reasons.specs.NewCalls.{new_calls};
 ghost use Rattle.farmend.specs.Receipts.{StandsOn, tickets_of};
-ghost use Rattle.farmboard.specs.Replays.{commits_after, farm_after};
+ghost use Rattle.farmhistory.specs.Replays.{commits_after, farm_after};
 ghost use Rattle.farmend.specs.Standing.{IsStanding};
 
-use super::common::Common;
-use super::ends::{FailedJob, FarmEnd, FarmLeft, FarmStop};
+use super::ends::{FarmEnd, FarmLeft, FarmStop};
 use super::faults::{early_fault, end_fault};
-use super::locked_board::LockedBoard;
-use super::node_state::{NodeState, state_of};
 use super::one::Farm;
-use super::opening::{Submission, Submitted, open, submit_all};
-use super::plan::Plan;
-use super::threads::{Ends, run_threads};
-use super::worker::WorkerEnd;
+use super::solved::{Solved, Told, solve_all};
 use executions::{Executor, Gate};
 use farm_base::NodeId;
 use farmboard::{Board, FarmStep, Receipt};
 use farmend::{EndRefusal, HandedBack, Hired, RunEnd, Standing, calls_of, check, check_standing};
-use jobs::{Answer, Cause};
+use jobs::Answer;
 use schedule::Setup;
 use solverkeys::Keyed;
-use solving::{FarmFault, Work, answer_of, beside_setup, cause_of, is_staffed, start_fault};
-use std::alloc::{AllocError, Global};
+use solving::{FarmFault, beside_setup, is_staffed};
+use std::alloc::Global;
 use std::sync::Wait;
 use std::thread::Threads;
-
-/// The executors, and all receipts.
-fn gather(
-    alloc: Global,
-    ends: Ends,
-) -> Result<(Vec<Box<dyn Executor + Send>>, Vec<Receipt>), AllocError> {
-    let Ends {
-        workers,
-        mut receipts,
-    } = ends;
-    let mut executors = Vec::with_capacity(alloc, workers.len())?;
-    for worker in workers {
-        let WorkerEnd {
-            executor,
-            receipts: mut made,
-        } = worker;
-        receipts.append(&mut made)?;
-        executors.push(executor)?;
-    }
-    Ok((executors, receipts))
-}
-
-/// The answer of a job.
-fn answer_at<R: Wait>(
-    rt: &R,
-    nodes: &[NodeState],
-    submission: &Submission,
-) -> Result<Answer, FarmFault> {
-    let Some(state) = state_of(nodes, submission.node) else {
-        return Err(FarmFault::ReceiptLost);
-    };
-    let answer = answer_of(&state.jobs.lock(rt).jobs, submission.number)?;
-    Ok(answer)
-}
-
-/// The answers of the jobs with these numbers on their nodes.
-fn answers_of<R: Wait>(
-    rt: &R,
-    alloc: Global,
-    nodes: &[NodeState],
-    numbers: &[Submission],
-) -> Result<Vec<Answer>, FarmFault> {
-    let mut answers = Vec::with_capacity(alloc, numbers.len())?;
-    for submission in numbers {
-        let answer = answer_at(rt, nodes, submission)?;
-        answers.push(answer)?;
-    }
-    Ok(answers)
-}
-
-/// Why a job failed.
-fn cause_at<R: Wait>(
-    rt: &R,
-    alloc: Global,
-    nodes: &[NodeState],
-    submission: &Submission,
-) -> Result<Cause, FarmFault> {
-    let Some(state) = state_of(nodes, submission.node) else {
-        return Err(FarmFault::ReceiptLost);
-    };
-    let cause = cause_of(alloc, &state.jobs.lock(rt).jobs, submission.number)?;
-    Ok(cause)
-}
-
-/// Each job that failed, and why.
-fn causes_of<R: Wait>(
-    rt: &R,
-    alloc: Global,
-    nodes: &[NodeState],
-    numbers: &[Submission],
-    answers: &[Answer],
-) -> Result<Vec<FailedJob>, FarmFault>
-    ensures { IfOk result (λ causes. map (λ each. each.place) causes.items ≡ failed_in answers.now) }
-{
-    let mut causes = Vec::new(alloc);
-    let mut rest = answers;
-    for place in 0..numbers.len() {
-        let [answer, others @ ..] = rest else {
-            break;
-        };
-        if let Answer::Failed = answer {
-            let cause = cause_at(rt, alloc, nodes, &numbers[place])?;
-            causes.push(FailedJob { place, cause })?;
-        }
-        rest = others;
-    }
-    if !rest.is_empty() {
-        return Err(FarmFault::ReceiptLost);
-    }
-    Ok(causes)
-}
-
-/// What the jobs with these numbers came to.
-fn told_of<R: Wait>(
-    rt: &R,
-    alloc: Global,
-    common: &Common,
-    numbers: &[Submission],
-) -> Result<Told, FarmFault>
-    ensures { IfOk result (λ told. map (λ each. each.place) told.causes.items ≡ failed_in told.answers.items) }
-{
-    if let Some(fault) = common.signals.fault(rt) {
-        return Err(fault);
-    }
-    let nodes = common.nodes.as_slice();
-    let answers = answers_of(rt, alloc, nodes, numbers)?;
-    let causes = causes_of(rt, alloc, nodes, numbers, answers.as_slice())?;
-    Ok(Told { answers, causes })
-}
-
-/// The board and the jobs.
-fn parts_of(common: Common) -> (Board, Vec<(NodeId, Keyed)>)
-    ensures { result.1.items ≡ jobs_of common.work }
-{
-    let Common {
-        alloc: _,
-        board,
-        nodes: _,
-        work,
-        signals: _,
-    } = common;
-    let LockedBoard { board, tenures: _ } = board.into_inner();
-    (board, work.into_jobs())
-}
 
 impl Farm {
     /// Solves the jobs on their nodes: one thread for each executor, beside a router in this one. It waits for all threads.
@@ -377,71 +246,4 @@ fn stopped(
             left: None,
         },
     }
-}
-
-/// What the jobs came to: the answer of each, and why those that failed did.
-#[derive(Drop)]
-struct Told {
-    answers: Vec<Answer>,
-    causes: Vec<FailedJob>,
-}
-
-/// What the threads leave: what the jobs came to, or the first fault; what is checked; and the executors and jobs.
-#[derive(Drop)]
-struct Solved {
-    told: Result<Told, FarmFault>,
-    board: Board,
-    receipts: Vec<Receipt>,
-    executors: Vec<Box<dyn Executor + Send>>,
-    jobs: Vec<(NodeId, Keyed)>,
-}
-
-/// Submits the jobs. The answer is what this number of workers share, and where each job was submitted.
-fn submitted(
-    alloc: Global,
-    setup: Setup,
-    jobs: Vec<(NodeId, Keyed)>,
-    workers: usize,
-    due: u64,
-) -> Result<(Common, Vec<Submission>), FarmFault>
-    ensures { IfOk result (λ submitted. jobs_of submitted.0.work ≡ jobs.items) }
-{
-    let board = match Board::start(alloc, setup) {
-        Ok(board) => board,
-        Err(refusal) => return Err(start_fault(refusal)),
-    };
-    let Submitted { tables, numbers } = submit_all(alloc, setup.nodes, jobs.as_slice())?;
-    let work = Work::of(alloc, jobs)?;
-    let common = open(alloc, board, tables, work, workers, due)?;
-    Ok((common, numbers))
-}
-
-/// Solves the jobs on their nodes.
-#[tactic(auto, using(crate::proofs::Crosses::common))]
-fn solve_all<R: Threads + Wait + Sync, G: Gate>(
-    rt: &R,
-    alloc: Global,
-    setup: Setup,
-    jobs: Vec<(NodeId, Keyed)>,
-    executors: Vec<(NodeId, Box<dyn Executor + Send>)>,
-    fault_plan: Vec<(usize, FarmStep)>,
-    gate: &G,
-) -> Result<Solved, FarmFault>
-    ensures jobs { IfOk result (λ solved. solved.jobs.items ≡ jobs.items) }
-    ensures causes { IfOk result (λ solved. IfOk solved.told (λ told. map (λ each. each.place) told.causes.items ≡ failed_in told.answers.items)) }
-{
-    let plan = Plan::of(fault_plan);
-    let workers = executors.len();
-    let (common, numbers) = submitted(alloc, setup, jobs, workers, plan.next_due())?;
-    let ends = run_threads(rt, alloc, &common, executors, plan, gate);
-    let told = told_of(rt, alloc, &common, numbers.as_slice());
-    let (executors, receipts) = gather(alloc, ends)?;
-    let (board, jobs) = parts_of(common);
-    Ok(Solved {
-        told,
-        board,
-        receipts,
-        executors,
-        jobs,
-    })
 }

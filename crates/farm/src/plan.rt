@@ -1,8 +1,8 @@
 //! The steps by which a run is disturbed.
 use super::locked_board::LockedBoard;
+use events::EventRefusal;
 use farm_base::{FromCoord, Message, NodeId, Ticket, ToNode};
 use farmboard::{Board, BoardRefusal, FarmStep};
-use protocol::EventRefusal;
 use solving::{FarmFault, board_fault};
 use std::alloc::Global;
 

@@ -3,12 +3,12 @@ ghost use Rattle.std.specs.Prelude.{⊤};
 
 use super::definitions::Op;
 use super::runs::{End, Executors, add_job, end_of, two_jobs, two_scripted};
+use events::{Event, Kept};
 use executions::{Call, ExecOutcome, ExecTask, Executor, OpenGate};
 use farm::{FarmEnd, FarmFault, FarmLeft};
 use farm_base::{Copied, FolderName, Items, NodeId, Text, Ticket};
 use farmboard::FarmStep;
 use folders::Edit;
-use protocol::{Event, Kept};
 use saverecord::Record;
 use solverkeys::Keyed;
 use std::alloc::{AllocError, Global};

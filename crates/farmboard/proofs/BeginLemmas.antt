@@ -2,15 +2,15 @@
 use Rattle.std.proofs.Common.{◌≡◌, ◌≢◌, ℕ, List, Ok, refl, ap, sym, subst, ◌∙◌}
 use Rattle.protocol.specs.Names.{Life}
 use Rattle.protocol.specs.Machine.{Grant}
-use Rattle.protocol.specs.declared.event.Event.TheVariants as event
-use Rattle.protocol.specs.declared.answer.EventNote.TheVariants as note
-use Rattle.protocol.specs.declared.answer.NodeNote.TheVariants as node_note
-use Rattle.protocol.specs.declared.answer.Outcome.{Outcome}
+use Rattle.events.specs.declared.event.Event.TheVariants as event
+use Rattle.events.specs.declared.answer.EventNote.TheVariants as note
+use Rattle.events.specs.declared.answer.NodeNote.TheVariants as node_note
+use Rattle.events.specs.declared.answer.Outcome.{Outcome}
 use Rattle.farmboard.specs.declared.tokens.Granted.{Granted}
 use Rattle.farmboard.specs.declared.tokens.Running.{Running}
-use Rattle.farmboard.specs.History.{History, farm_of, Took, Did}
+use Rattle.farmhistory.specs.History.{History, farm_of, Took, Did}
 use Rattle.farmboard.specs.Begins.{begin_of, AreBases, Lends, IsBegunOf, IsUsed}
-use Rattle.farmboard.proofs.NodeLemmas.{did_begin, still_there, same_life, runs_now, has_ticket}
+use Rattle.farmhistory.proofs.NodeLemmas.{did_begin, still_there, same_life, runs_now, has_ticket}
 
 module _ (old new : History) (token : Granted) (l : Life) (g : Grant) (bases : List (List ℕ)) (lent : Lends (farm_of old) token.node token.grant.ticket l g bases) where
   pub begun_token : (r : Running) → r ≡ record { node = token.node; life = l; wants = token.wants; grant = g; bases = bases } → IsBegunOf token r

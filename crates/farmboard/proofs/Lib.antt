@@ -1,10 +1,3 @@
 pub mod BeginLemmas
-pub mod FarmLemmas
-pub mod HistoryLemmas
 pub mod LookLemmas
-pub mod NodeLemmas
-pub mod NoteLemmas
-pub mod ReplayLemmas
 pub mod SettleLemmas
-pub mod TicketLemmas
-pub mod UseLemmas

@@ -1,29 +1,31 @@
 -- What a look at a node says of its tokens, the farm being the one that the schedule leads to.
 use Rattle.std.proofs.Common.{◌≡◌, ◌≢◌, Bool, true, false, not, ◌&&◌, is_some, List, ℕ, Result, Ok, Err, refl, ap, sym, subst, ◌∙◌}
+use Rattle.std.proofs.lemmas.Bool.{and_parts, not-true}
 use Rattle.protocol.specs.Names.{NodeId, Life, Ticket}
 use Rattle.protocol.specs.Machine.{Grant}
 use Rattle.protocol.specs.World.{Node}
-use Rattle.protocol.specs.Nodes.{begun, first, held, running}
+use Rattle.protocol.specs.Nodes.{begun, first, held, running, held_or_running}
 use Rattle.protocol.specs.Replay.{Farm, is_node}
-use Rattle.protocol.specs.declared.event.Event.{Event}
-use Rattle.protocol.specs.declared.event.Event.TheVariants as event
-use Rattle.protocol.specs.declared.answer.EventRefusal.{EventRefusal}
-use Rattle.protocol.specs.declared.answer.EventRefusal.TheVariants as refusal
-use Rattle.protocol.specs.declared.answer.NodeRefusal.{NodeRefusal}
-use Rattle.protocol.specs.declared.answer.NodeRefusal.TheVariants as node
-use Rattle.protocol.specs.declared.answer.NodeNote.TheVariants as node_note
-use Rattle.protocol.specs.declared.answer.EventNote.TheVariants as note
-use Rattle.protocol.specs.declared.answer.Outcome.{Outcome}
+use Rattle.events.specs.declared.event.Event.{Event}
+use Rattle.events.specs.declared.event.Event.TheVariants as event
+use Rattle.events.specs.declared.answer.EventRefusal.{EventRefusal}
+use Rattle.events.specs.declared.answer.EventRefusal.TheVariants as refusal
+use Rattle.events.specs.declared.answer.NodeRefusal.{NodeRefusal}
+use Rattle.events.specs.declared.answer.NodeRefusal.TheVariants as node
+use Rattle.events.specs.declared.answer.NodeNote.TheVariants as node_note
+use Rattle.events.specs.declared.answer.EventNote.TheVariants as note
+use Rattle.events.specs.declared.answer.Outcome.{Outcome}
 use Rattle.nodecore.specs.Shown.{MayBegin}
 use Rattle.farmboard.specs.declared.tokens.Granted.{Granted}
 use Rattle.farmboard.specs.declared.tokens.Look.TheVariants.{Ready, Missing, Gone}
 use Rattle.farmboard.specs.declared.tokens.Ended.TheVariants.{Sent}
-use Rattle.farmboard.specs.declared.refusal.BoardRefusal.{BoardRefusal}
-use Rattle.farmboard.specs.declared.refusal.BoardRefusal.TheVariants as board
-use Rattle.farmboard.specs.History.{History, farm_of, outcome_of, Took}
+use Rattle.farmhistory.specs.declared.refusal.BoardRefusal.{BoardRefusal}
+use Rattle.farmhistory.specs.declared.refusal.BoardRefusal.TheVariants as board
+use Rattle.farmhistory.specs.History.{History, farm_of, outcome_of, Took}
 use Rattle.farmboard.specs.Faults.{TookOrNot}
+use Rattle.farmboard.specs.Tokens.{is_in_life}
 use Rattle.farmboard.specs.Begins.{Looks, Lends, AreBases, is_held, is_running, GivesBack, KeepsLease}
-use Rattle.farmboard.proofs.NodeLemmas.{begins_nowhere, begins_refused, begins_here, HasTicket, has_ticket_if, held_either, running_either, abort_tells, abort_refused}
+use Rattle.farmhistory.proofs.NodeLemmas.{begins_nowhere, begins_refused, begins_here, HasTicket, held_either, running_either, abort_tells, abort_refused}
 
 module _ (h : History) (n : NodeId) (t : Ticket) (s : Farm) (at : s ≡ farm_of h) where
   pub nowhere : is_node s n ≡ false → outcome_of h (event.Begin n t) ≡ Err refusal.NoSuchNode
@@ -65,6 +67,17 @@ module _ (old new : History) (n : NodeId) (t : Ticket) (has : Bool) (ticket : ha
   kept_back board.HistoryFull took = (here, took)
   kept_back board.TokenOut took = (here, took)
   kept_back board.OutOfMemory took = (here, took)
+
+pub has_ticket_if : (s : Farm) (n : NodeId) (l : Life) (t : Ticket) (b : Bool) → (b ≡ true → is_some (first (held_or_running t) (s.nodes n.0).asks 0) ≡ true)
+    → (is_in_life s n l && (not (s.nodes n.0).spent && b)) ≡ true → HasTicket s n t
+has_ticket_if s n l t b either has =
+    let one = and_parts (is_in_life s n l) (not (s.nodes n.0).spent && b) has in
+    let two = and_parts (not (s.nodes n.0).spent) b one.1 in
+    record {
+      there = (and_parts (is_node s n) _ one.0).0;
+      up = not-true (s.nodes n.0).spent two.0;
+      some = either two.1;
+    }
 
 pub held_has : (s : Farm) (n : NodeId) (l : Life) (t : Ticket) → is_held s n l t ≡ true → HasTicket s n t
 held_has s n l t has = has_ticket_if s n l t (is_some (first (held t) (s.nodes n.0).asks 0)) (held_either t (s.nodes n.0).asks 0) has

@@ -1,18 +1,17 @@
 -- What is known of an execution that is over.
-use Rattle.std.proofs.Common.{◌≡◌, ℕ, zero, suc, Bool, true, false, not, ◌&&◌, ◌||◌, List, [], ◌∷◌, ◌++◌, map, take, drop, set, length, Option, Some, None, is_some, slice_get, refl, ap, sym, ◌∙◌}
+use Rattle.std.proofs.Common.{◌≡◌, Bool, true, false, not, ◌&&◌, ◌||◌, List, Option, Some, refl, ap, sym, ◌∙◌}
 use Rattle.std.specs.List.{list_any, list_all}
 use Rattle.protocol.specs.Lists.{is_nil}
-use Rattle.protocol.specs.Names.{Ticket, Slot}
-use Rattle.protocol.specs.Machine.{LineVersion, Confirmed}
+use Rattle.protocol.specs.Names.{Ticket}
+use Rattle.protocol.specs.Machine.{Confirmed}
 use Rattle.protocol.specs.Replay.{Farm}
-use Rattle.protocol.specs.declared.answer.How.{How}
-use Rattle.protocol.specs.declared.answer.How.TheVariants as how
-use Rattle.versions.specs.Line.{number_in}
-use Rattle.versions.specs.Lines.{line_shown}
+use Rattle.events.specs.declared.answer.How.{How}
+use Rattle.events.specs.declared.answer.How.TheVariants as how
 use Rattle.farmboard.specs.declared.tokens.Finished.{Finished}
 use Rattle.farmboard.specs.declared.settling.Fate.TheVariants as fate
 use Rattle.farmboard.specs.Tokens.{is_in_life}
-use Rattle.farmboard.specs.Settling.{stands, is_live, way_out_in, is_committed, is_fenced, has_restarted, is_confirmed, is_dropped, is_lost, Fares}
+use Rattle.farmhistory.specs.Lines.{stands, is_live}
+use Rattle.farmboard.specs.Settling.{way_out_in, is_committed, is_fenced, has_restarted, is_confirmed, is_dropped, is_lost, Fares}
 
 -- confirmed, of its parts: it left nothing, all stands, its node restarted, its ask ended as committed
 confirmed_by : (n a r c x y z w : Bool) → n ≡ x → a ≡ y → r ≡ z → c ≡ w → (n || (a && (r || c))) ≡ (x || (y && (z || w)))
@@ -75,39 +74,3 @@ module _ (s : Farm) (f : Finished) (some : is_nil f.versions ≡ false) where
 
     pub nothing_loses : list_all (stands s f.ticket) f.versions ≡ false → is_live s f.ticket ≡ false → list_any (stands s f.ticket) f.versions ≡ false → Fares s f fate.Lost
     nothing_loses all live none = (confirmed_then false (sym all), lost_is ∙ (λ j. not (live j) && not (none j)))
-
--- what is left undone of a list, each element of whose front was changed
-pub changed_front : {A : Type 0} (f : A → A) (xs : List A) (i : ℕ) (x : A) → slice_get xs i ≡ Some x → set (map f (take i xs) ++ drop i xs) i (f x) ≡ map f (take (suc i) xs) ++ drop (suc i) xs
-changed_front f [] i x h = absurd (cc)
-changed_front f (y ∷ ys) zero x h = (let same : y ≡ x = cc in ap (λ z. f z ∷ ys) (sym same))
-changed_front f (y ∷ ys) (suc i) x h = ap (λ zs. f y ∷ zs) (changed_front f ys i x h)
-
--- the number on a line, as the coordinator lends it
-pub number_shown : (line : List LineVersion) (t : Ticket) (o : Option (List LineVersion)) → o ≡ line_shown line → o ≡ None → number_in line t ≡ None
-number_shown [] t o is none = refl
-number_shown (v ∷ vs) t o is none = (let bad : Some (v ∷ vs) ≡ None = sym is ∙ none in cc)
-
-pub line_lent : (line got : List LineVersion) (o : Option (List LineVersion)) → o ≡ line_shown line → o ≡ Some got → got ≡ line
-line_lent [] got o is some = (let bad : ◌≡◌ {A = Option (List LineVersion)} None (Some got) = sym is ∙ some in cc)
-line_lent (v ∷ vs) got o is some = (let same : Some (v ∷ vs) ≡ Some got = sym is ∙ some in let eq : v ∷ vs ≡ got = cc in sym eq)
-
--- what holds of all holds of each
-pub all_at : {A : Type 0} (p : A → Bool) (xs : List A) (i : ℕ) (x : A) → list_all p xs ≡ true → slice_get xs i ≡ Some x → p x ≡ true
-all_at p [] i x all at = absurd (cc)
-all_at p (y ∷ ys) zero x all at = (let same : y ≡ x = cc in ap p (sym same) ∙ front (p y) (list_all p ys) all)
-  where
-    front : (a b : Bool) → (a && b) ≡ true → a ≡ true
-    front true b h = refl
-    front false b h = h
-all_at p (y ∷ ys) (suc i) x all at = all_at p ys i x (rest (p y) (list_all p ys) all) at
-  where
-    rest : (a b : Bool) → (a && b) ≡ true → b ≡ true
-    rest true b h = h
-    rest false b h = absurd (cc)
-
--- the element that is next to be changed
-pub front_same : {A : Type 0} (f : A → A) (xs : List A) (i : ℕ) → slice_get (map f (take i xs) ++ drop i xs) i ≡ slice_get xs i
-front_same f [] zero = refl
-front_same f [] (suc i) = refl
-front_same f (y ∷ ys) zero = refl
-front_same f (y ∷ ys) (suc i) = front_same f ys i

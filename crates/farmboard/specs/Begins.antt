@@ -3,28 +3,28 @@ use Rattle.std.specs.Prelude.{◌≡◌, ◌≢◌, ℕ, Bool, true, false, ◌&
 use Rattle.farm_base.specs.Contents.{content_digest}
 use Rattle.protocol.specs.Lists.{nth}
 use Rattle.protocol.specs.Names.{NodeId, Life, Ticket, Want}
-use Rattle.protocol.specs.Machine.{Grant, GrantedSlot}
+use Rattle.protocol.specs.Machine.{Grant}
 use Rattle.protocol.specs.Nodes.{first, held, running}
 use Rattle.protocol.specs.Replay.{Farm, is_node}
-use Rattle.protocol.specs.declared.ask.KeptAsk.TheVariants as ask
-use Rattle.protocol.specs.declared.event.Event.{Event}
-use Rattle.protocol.specs.declared.event.Event.TheVariants.{Begin}
-use Rattle.protocol.specs.declared.answer.EventNote.TheVariants as note
-use Rattle.protocol.specs.declared.answer.NodeNote.TheVariants as node_note
-use Rattle.protocol.specs.declared.answer.EventRefusal.{EventRefusal}
-use Rattle.protocol.specs.declared.answer.EventRefusal.TheVariants as refusal
-use Rattle.protocol.specs.declared.answer.NodeRefusal.TheVariants as node
-use Rattle.protocol.specs.declared.answer.Outcome.{Outcome}
+use Rattle.events.specs.declared.ask.KeptAsk.TheVariants as ask
+use Rattle.events.specs.declared.event.Event.{Event}
+use Rattle.events.specs.declared.event.Event.TheVariants.{Begin}
+use Rattle.events.specs.declared.answer.EventNote.TheVariants as note
+use Rattle.events.specs.declared.answer.NodeNote.TheVariants as node_note
+use Rattle.events.specs.declared.answer.EventRefusal.{EventRefusal}
+use Rattle.events.specs.declared.answer.EventRefusal.TheVariants as refusal
+use Rattle.events.specs.declared.answer.NodeRefusal.TheVariants as node
+use Rattle.events.specs.declared.answer.Outcome.{Outcome}
 use Rattle.nodecore.specs.Shown.{MayBegin}
-use Rattle.farmboard.specs.declared.refusal.BoardRefusal.{BoardRefusal}
-use Rattle.farmboard.specs.declared.refusal.BoardRefusal.TheVariants as board
+use Rattle.farmhistory.specs.declared.refusal.BoardRefusal.{BoardRefusal}
+use Rattle.farmhistory.specs.declared.refusal.BoardRefusal.TheVariants as board
 use Rattle.farmboard.specs.declared.tokens.Granted.{Granted}
 use Rattle.farmboard.specs.declared.tokens.Running.{Running}
 use Rattle.farmboard.specs.declared.tokens.Look.{Look}
 use Rattle.farmboard.specs.declared.tokens.Look.TheVariants.{Ready, Missing, Gone}
 use Rattle.farmboard.specs.declared.tokens.Ended.{Ended}
 use Rattle.farmboard.specs.declared.tokens.Ended.TheVariants.{Sent, Stale}
-use Rattle.farmboard.specs.History.{History, outcome_of, Took, Did}
+use Rattle.farmhistory.specs.History.{History, outcome_of, Took, Did}
 use Rattle.farmboard.specs.Tokens.{is_in_life}
 
 -- the Begin of the grant

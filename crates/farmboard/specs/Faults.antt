@@ -1,17 +1,17 @@
 -- The steps by which a farm is disturbed.
-use Rattle.std.specs.Prelude.{⊤, ◌≡◌, ℕ, true, false, List, [], ◌∷◌, ◌++◌, Result, Ok, Err}
+use Rattle.std.specs.Prelude.{⊤, ◌≡◌, ℕ, true, false, [], ◌∷◌, ◌++◌, Result, Ok, Err}
 use Rattle.std.specs.List.{list_any}
 use Rattle.protocol.specs.Names.{NodeId}
-use Rattle.protocol.specs.declared.event.Event.{Event}
-use Rattle.protocol.specs.declared.event.Event.TheVariants as event
-use Rattle.protocol.specs.declared.answer.EventRefusal.TheVariants.{NoSuchMessage}
-use Rattle.protocol.specs.declared.answer.Outcome.{Outcome}
+use Rattle.events.specs.declared.event.Event.{Event}
+use Rattle.events.specs.declared.event.Event.TheVariants as event
+use Rattle.events.specs.declared.answer.EventRefusal.TheVariants.{NoSuchMessage}
+use Rattle.events.specs.declared.answer.Outcome.{Outcome}
 use Rattle.farmboard.specs.declared.fault.FarmStep.{FarmStep}
 use Rattle.farmboard.specs.declared.fault.FarmStep.TheVariants.{Skip, Again, Resend, Nudge, Withdraw, Prune, Retire, RestartNode, RestartCoordinator, FailSave, Forge}
-use Rattle.farmboard.specs.declared.refusal.BoardRefusal.{BoardRefusal}
-use Rattle.farmboard.specs.declared.refusal.BoardRefusal.TheVariants as board
-use Rattle.farmboard.specs.History.{History, Took, IsNext, NoneLeft}
-use Rattle.farmboard.specs.Out.{is_on, out_of}
+use Rattle.farmhistory.specs.declared.refusal.BoardRefusal.{BoardRefusal}
+use Rattle.farmhistory.specs.declared.refusal.BoardRefusal.TheVariants as board
+use Rattle.farmhistory.specs.History.{History, Took, IsNext, NoneLeft}
+use Rattle.farmhistory.specs.Out.{is_on, out_of}
 
 -- the event was taken or refused so
 abbrev pub TookOrNot : History → Event → History → Result ⊤ BoardRefusal → Type 0

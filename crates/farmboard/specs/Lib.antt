@@ -1,10 +1,5 @@
 pub mod Begins
-pub mod Boards
-pub mod Counts
 pub mod Ends
 pub mod Faults
-pub mod History
-pub mod Out
-pub mod Replays
 pub mod Settling
 pub mod Tokens

@@ -1,35 +1,18 @@
 -- What became of an execution that is over.
-use Rattle.std.specs.Prelude.{◌≡◌, ℕ, Bool, true, false, ◌&&◌, ◌||◌, ◌==◌, not, List, map, Option, Some, None, is_some}
+use Rattle.std.specs.Prelude.{◌≡◌, Bool, true, false, ◌&&◌, ◌||◌, not, map, Option, Some}
 use Rattle.std.specs.List.{list_any, list_all}
 use Rattle.protocol.specs.Lists.{nth, is_nil}
-use Rattle.protocol.specs.Names.{Ticket, Slot}
 use Rattle.protocol.specs.Replay.{Farm}
-use Rattle.farm_base.specs.declared.message.Version.{Version}
-use Rattle.protocol.specs.declared.answer.How.{How}
-use Rattle.protocol.specs.declared.answer.How.TheVariants as how
-use Rattle.versions.specs.Line.{number_in}
+use Rattle.events.specs.declared.answer.How.{How}
+use Rattle.events.specs.declared.answer.How.TheVariants as how
 use Rattle.nodeasks.specs.Asks.{way_out_of}
 use Rattle.farmboard.specs.declared.tokens.Finished.{Finished}
 use Rattle.farmboard.specs.declared.tokens.Settled.{Settled}
 use Rattle.farmboard.specs.declared.tokens.Settled.TheVariants.{Receipt, Fenced, Waiting, Lost}
 use Rattle.farmboard.specs.declared.settling.Fate.{Fate}
 use Rattle.farmboard.specs.declared.settling.Fate.TheVariants as fate
+use Rattle.farmhistory.specs.Lines.{stands, numbered, is_live}
 use Rattle.farmboard.specs.Tokens.{is_in_life}
-
--- the number of the version that stands on the slot's line under the ticket
-abbrev pub number_on : Farm → Ticket → Slot → Option ℕ
-number_on s t x = number_in (s.ledger.line x) t
-
-abbrev pub stands : Farm → Ticket → Version → Bool
-stands s t v = is_some (number_on s t v.slot)
-
-abbrev pub or_zero : Option ℕ → ℕ
-or_zero None = 0
-or_zero (Some k) = k
-
--- the version with its number
-abbrev pub numbered : Farm → Ticket → Version → Version
-numbered s t v = record { slot = v.slot; number = or_zero (number_on s t v.slot) }
 
 abbrev pub is_committed : Option How → Bool
 is_committed (Some (how.Committed t versions)) = true
@@ -46,9 +29,6 @@ has_restarted s f = not (is_in_life s f.node f.life)
 -- how the ask ended
 abbrev pub way_out_in : Farm → Finished → Option How
 way_out_in s f = way_out_of (nth (s.nodes f.node.0).asks f.ask.0)
-
-abbrev pub is_live : Farm → Ticket → Bool
-is_live s t = list_any (λ g. g.ticket.0 == t.0) s.ledger.live
 
 -- all that it left stands on the lines under its ticket, and its node has heard of it or restarted; or it left nothing
 abbrev pub is_confirmed : Farm → Finished → Bool

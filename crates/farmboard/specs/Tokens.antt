@@ -1,16 +1,16 @@
 -- What a look at the farm says of a token.
-use Rattle.std.specs.Prelude.{◌≡◌, ◌≢◌, ℕ, Bool, true, false, ◌==◌, ◌&&◌, List, Option, Some, None}
+use Rattle.std.specs.Prelude.{◌≡◌, ◌≢◌, Bool, true, false, ◌==◌, ◌&&◌, List, Option, Some}
 use Rattle.std.specs.Option.{option_map}
 use Rattle.protocol.specs.Lists.{nth}
 use Rattle.protocol.specs.Names.{NodeId, Life, Ask, Want}
 use Rattle.protocol.specs.Machine.{Grant}
 use Rattle.protocol.specs.Replay.{Farm, is_node}
 use Rattle.farm_base.specs.declared.message.Why.{Why}
-use Rattle.protocol.specs.declared.answer.How.TheVariants as how
+use Rattle.events.specs.declared.answer.How.TheVariants as how
 use Rattle.nodeasks.specs.Asks.{told_state}
 use Rattle.nodeasks.specs.declared.ask_state.AskState.{AskState}
 use Rattle.nodeasks.specs.declared.ask_state.AskState.TheVariants as state
-use Rattle.farmboard.specs.History.{History, farm_of}
+use Rattle.farmhistory.specs.History.{History, farm_of}
 use Rattle.farmboard.specs.declared.tokens.Asked.{Asked}
 use Rattle.farmboard.specs.declared.tokens.Accept.{Accept}
 use Rattle.farmboard.specs.declared.tokens.Accept.TheVariants as accept

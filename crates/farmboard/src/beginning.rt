@@ -1,17 +1,13 @@
 //! How executions begin.
-ghost use Rattle.std.specs.Prelude.{◌≡◌, ◌≢◌, true, Ok, Err, IfOk, IfErr, IfSome, IfNone, map};
-ghost use Rattle.farm_base.specs.Contents.{content_digest};
-ghost use Rattle.protocol.specs.Nodes.{all_stored};
-ghost use Rattle.protocol.specs.declared.answer.EventNote.TheVariants as note;
-ghost use Rattle.protocol.specs.declared.answer.NodeNote.TheVariants as node_note;
-ghost use Rattle.nodecore.specs.Shown.{shown};
+ghost use Rattle.std.specs.Prelude.{◌≡◌, ◌≢◌, Ok, Err, IfOk, IfErr, IfSome, IfNone};
+ghost use Rattle.events.specs.declared.answer.EventNote.TheVariants as note;
+ghost use Rattle.events.specs.declared.answer.NodeNote.TheVariants as node_note;
 
 use super::board::Board;
-use super::refusal::BoardRefusal;
 use super::tokens::{Granted, Look, Running};
-use farm_base::{Content, Copied, Grant, GrantedSlot, Items, Life, NodeId, Ticket};
-use nodecore::NodeCore;
-use protocol::{Event, NodeRefusal};
+use events::{Event, NodeRefusal};
+use farm_base::{Content, Copied, Grant, Items, Life, NodeId, Ticket};
+use farmhistory::{BoardRefusal, copies_of};
 use std::alloc::{AllocError, Global};
 
 /// What an execution begins with.
@@ -24,7 +20,7 @@ struct Lent {
 }
 
 impl Board {
-    ghost use Rattle.farmboard.specs.History.{farm_of, outcome_of, Took, Did};
+    ghost use Rattle.farmhistory.specs.History.{farm_of, outcome_of, Took, Did};
     ghost use Rattle.farmboard.specs.Begins.{begin_of, Looks, AreBases, Lends, IsBegunOf, IsUsed};
 
     /// What `begin` would say of a grant now.
@@ -104,23 +100,4 @@ fn running(token: Granted, lent: Lent) -> Running
         grant,
         bases,
     }
-}
-
-/// Copies of the contents of the slots' bases, each of which is stored.
-fn copies_of(
-    alloc: Global,
-    core: &NodeCore,
-    slots: &[GrantedSlot],
-) -> Result<Vec<Content>, AllocError>
-    requires { all_stored (shown core.now) slots.now ≡ true }
-    ensures { IfOk result (λ bases. map content_digest bases.items ≡ map (λ u. u.digest) slots.now) }
-{
-    let mut bases = Vec::with_capacity(alloc, slots.len())?;
-    for slot in slots {
-        match core.content(&slot.digest) {
-            Some(content) => bases.push(content.copy(alloc)?)?,
-            None => unreachable!(),
-        }
-    }
-    Ok(bases)
 }

@@ -3,24 +3,23 @@ ghost use Rattle.std.specs.Prelude.{◌≡◌, ◌≤◌, ◌↔◌, [], true, I
 ghost use Rattle.farm_base.specs.declared.limits.TheConstants.{EVENTS};
 ghost use Rattle.protocol.specs.Names.{tenure_wants};
 ghost use Rattle.protocol.specs.Replay.{is_node};
-ghost use Rattle.protocol.specs.declared.answer.EventNote.TheVariants as note;
-ghost use Rattle.protocol.specs.declared.answer.NodeNote.TheVariants as node_note;
-ghost use Rattle.farmboard.specs.Ends.{version_of, finished_of};
+ghost use Rattle.events.specs.declared.answer.EventNote.TheVariants as note;
+ghost use Rattle.events.specs.declared.answer.NodeNote.TheVariants as node_note;
+ghost use Rattle.farmboard.specs.Ends.{finished_of};
 ghost use Rattle.world.specs.Setups.{IsSetup};
 ghost use Rattle.world.specs.Shown.{shown};
 
-use super::counts::{Counts, count, leases_at};
-use super::event::{answer, asked, carry_out};
 use super::fault::FarmStep;
-use super::passing::{is_among, pass};
-use super::refusal::BoardRefusal;
 use super::tokens::{Accept, Asked, Finished, Granted, Running, abandon_asked};
-use super::uses::{InUse, has_node, note};
+use events::{Event, EventRefusal, How, Outcome};
 use farm_base::{
     Ask, Copied, EVENTS, FolderName, Grant, Items, Left, Life, Mode, NodeId, Version, Want, Wants,
 };
+use farmhistory::{
+    BoardRefusal, Counts, InUse, answer, asked, carry_out, count, first_versions, has_node,
+    is_among, leases_at, note, pass,
+};
 use nodecore::AskState;
-use protocol::{Event, EventRefusal, How, Outcome};
 use schedule::Setup;
 use std::alloc::{AllocError, Global};
 use std::marker::Model;
@@ -59,8 +58,8 @@ impl Drop for Board {
 
 impl Model for Board {
     ghost use Rattle.world.specs.Shown.{shown};
-    ghost use Rattle.farmboard.specs.History.{History};
-    ghost use Rattle.farmboard.specs.Boards.{IsBoard};
+    ghost use Rattle.farmhistory.specs.History.{History};
+    ghost use Rattle.farmhistory.specs.Boards.{IsBoard};
 
     ghost Value = { History };
 
@@ -70,10 +69,10 @@ impl Model for Board {
 }
 
 impl Board {
-    ghost use Rattle.farmboard.specs.History.{farm_of, is_passed, Took, Did, IsNext, NoneLeft, DeliversNext, IsAskEvent};
-    ghost use Rattle.farmboard.specs.Out.{out_of, AreUsed};
-    ghost use Rattle.farmboard.specs.Counts.{counts_of, commits_of};
-    ghost use Rattle.farmboard.specs.Boards.{AreFew};
+    ghost use Rattle.farmhistory.specs.History.{farm_of, is_passed, Took, Did, IsNext, NoneLeft, DeliversNext, IsAskEvent};
+    ghost use Rattle.farmhistory.specs.Out.{out_of, AreUsed};
+    ghost use Rattle.farmhistory.specs.Counts.{counts_of, commits_of};
+    ghost use Rattle.farmhistory.specs.Boards.{AreFew};
     ghost use Rattle.farmboard.specs.Faults.{Skips, TookOrNot, RestartsNode, Faults};
     ghost use Rattle.farmboard.specs.Tokens.{is_in_life, state_of, IsAskOf, Accepts};
 
@@ -455,18 +454,6 @@ fn wants_of_tenure(alloc: Global, folder: &FolderName) -> Result<Wants, AllocErr
     ensures { IfOk result (λ wants. wants ≡ tenure_wants folder.now) }
 {
     Wants::one(alloc, folder.copy(alloc)?, true)
-}
-
-/// Room for a version of each slot, its number not known yet.
-fn first_versions(alloc: Global, lefts: &[Left]) -> Result<Vec<Version>, AllocError>
-    ensures { IfOk result (λ v. v.items ≡ map version_of lefts.now) }
-{
-    let mut versions = Vec::with_capacity(alloc, lefts.len())?;
-    for left in lefts {
-        let slot = left.slot.copy(alloc)?;
-        versions.push(Version { slot, number: 0 })?;
-    }
-    Ok(versions)
 }
 
 /// The execution that is over.

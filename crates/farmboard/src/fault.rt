@@ -1,5 +1,5 @@
+use events::Kept;
 use farm_base::{Content, NodeId, Slot, Ticket};
-use protocol::Kept;
 
 /// A step by which a farm is disturbed.
 #[derive(Drop)]

@@ -2,14 +2,14 @@
 ghost use Rattle.std.specs.Prelude.{◌≡◌, IfOk, IfErr};
 
 use super::board::Board;
-use super::refusal::BoardRefusal;
 use super::tokens::{Ended, Granted, Running, abandon_granted, abandon_running};
+use events::Event;
 use farm_base::{Life, NodeId, Ticket};
-use protocol::Event;
+use farmhistory::BoardRefusal;
 use std::alloc::Global;
 
 impl Board {
-    ghost use Rattle.farmboard.specs.History.{farm_of};
+    ghost use Rattle.farmhistory.specs.History.{farm_of};
     ghost use Rattle.farmboard.specs.Begins.{is_held, is_running, GivesBack, KeepsLease};
 
     /// Whether an ask of the node, in this life, is granted under the ticket and not begun.

@@ -1,13 +1,13 @@
 //! What became of executions that are over.
 ghost use Rattle.std.specs.Prelude.{◌≡◌, is_some, IfSome, map, option_copied};
-ghost use Rattle.std.specs.List.{list_any, list_all};
 ghost use Rattle.world.specs.Shown.{shown};
-ghost use Rattle.farmboard.specs.Settling.{number_on, or_zero, stands, numbered, is_live};
+ghost use Rattle.farmhistory.specs.Lines.{numbered};
 
 use super::board::Board;
 use super::tokens::{Finished, Receipt, Settled, abandon_finished};
-use farm_base::{Items, Slot, Ticket, Version};
-use protocol::How;
+use events::How;
+use farm_base::Items;
+use farmhistory::{all_stand, any_stands, is_live, number_all};
 use world::World;
 
 /// What is known of an execution that is over.
@@ -20,7 +20,7 @@ enum Fate {
 }
 
 impl Board {
-    ghost use Rattle.farmboard.specs.History.{farm_of};
+    ghost use Rattle.farmhistory.specs.History.{farm_of};
     ghost use Rattle.farmboard.specs.Tokens.{is_in_life};
     ghost use Rattle.farmboard.specs.Settling.{way_out_in, Fares, Settles};
 
@@ -73,65 +73,6 @@ impl Board {
             }
             Fate::Open => Settled::Waiting(token),
         }
-    }
-}
-
-/// The number of the version that stands on the slot's line under the ticket.
-pub(crate) fn number_on(world: &World, ticket: Ticket, slot: &Slot) -> Option<u64>
-    ensures { result ≡ number_on (shown world.now) ticket slot.now }
-{
-    world.coordinator().line(slot)?.number_of(ticket)
-}
-
-/// Whether a version of the slot stands on its line under the ticket.
-fn stands(world: &World, ticket: Ticket, version: &Version) -> bool
-    ensures { result ≡ stands (shown world.now) ticket version.now }
-{
-    number_on(world, ticket, &version.slot).is_some()
-}
-
-fn all_stand(world: &World, ticket: Ticket, versions: &[Version]) -> bool
-    ensures { result ≡ list_all (stands (shown world.now) ticket) versions.now }
-{
-    versions
-        .iter()
-        .all(|version| stands(world, ticket, version))
-}
-
-fn any_stands(world: &World, ticket: Ticket, versions: &[Version]) -> bool
-    ensures { result ≡ list_any (stands (shown world.now) ticket) versions.now }
-{
-    versions
-        .iter()
-        .any(|version| stands(world, ticket, version))
-}
-
-/// Whether a live lease has the ticket.
-fn is_live(world: &World, ticket: Ticket) -> bool
-    ensures { result ≡ is_live (shown world.now) ticket }
-{
-    world
-        .coordinator()
-        .leases()
-        .iter()
-        .any(|lease| lease.ticket == ticket)
-}
-
-fn or_zero(number: Option<u64>) -> u64
-    ensures { result ≡ or_zero number }
-{
-    match number {
-        Some(number) => number,
-        None => 0,
-    }
-}
-
-/// Gives the versions the numbers that they have on their lines.
-fn number_all(world: &World, ticket: Ticket, versions: &mut Vec<Version>)
-    ensures { versions.new.items ≡ map (numbered (shown world.now) ticket) versions.old.items }
-{
-    for version in versions.iter_mut() {
-        version.number = or_zero(number_on(world, ticket, &version.slot));
     }
 }
 

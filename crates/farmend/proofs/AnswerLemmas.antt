@@ -1,5 +1,5 @@
 -- Answers that have their reasons.
-use Rattle.std.proofs.Common.{◌≡◌, ◌≢◌, ℕ, ◌+◌, List, [], ◌∷◌, take, Some, slice_get, subst}
+use Rattle.std.proofs.Common.{◌≡◌, ◌≢◌, List, [], ◌∷◌, subst}
 use Rattle.std.specs.List.{All, AllZip}
 use Rattle.std.proofs.lemmas.List.Elements.{All-cons, All-nil}
 use Rattle.farm_base.specs.declared.number.NodeId.{NodeId}
@@ -8,13 +8,7 @@ use Rattle.executions.specs.declared.call.Call.{Call}
 use Rattle.jobs.specs.declared.answer.Answer.{Answer}
 use Rattle.jobs.specs.declared.answer.Answer.TheVariants.{Waiting}
 use Rattle.solverkeys.specs.Keyed.{KeyedParts}
-use Rattle.lists.proofs.Places.{take_push, AllZip-push}
-use Rattle.farmend.specs.Answers.{AreAnswered}
-
--- pairs that match up to one place more
-pub zip_at : {A B : Type 0} (R : A → B → Type 0) (xs : List A) (ys : List B) (k : ℕ) (x : A) (y : B) → slice_get xs k ≡ Some x → slice_get ys k ≡ Some y
-    → AllZip R (take k xs) (take k ys) → R x y → AllZip R (take (k + 1) xs) (take (k + 1) ys)
-zip_at R xs ys k x y at_x at_y all one = rw (take_push xs k x at_x, take_push ys k y at_y) (AllZip-push R (take k xs) (take k ys) x y all one)
+use Rattle.reasons.specs.Answers.{AreAnswered}
 
 -- what has a reason doesn't wait
 pub none_waits : {J : Type 0} (R : J → Answer → Type 0) (jobs : List J) (answers : List Answer) → ((job : J) → R job Waiting → ⊥) → AllZip R jobs answers → All (λ answer. answer ≢ Waiting) answers

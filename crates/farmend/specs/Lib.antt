@@ -1,5 +1,3 @@
-pub mod Answers
 pub mod NewCalls
 pub mod Receipts
-pub mod Solved
 pub mod Standing

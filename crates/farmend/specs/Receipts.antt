@@ -1,7 +1,7 @@
 -- What receipts say of a farm's lines (this project's own).
 use Rattle.std.specs.Prelude.{◌≡◌, ℕ, List, map, All, Some}
 use Rattle.protocol.specs.Replay.{Farm}
-use Rattle.farmboard.specs.Settling.{number_on}
+use Rattle.farmhistory.specs.Lines.{number_on}
 use Rattle.farmboard.specs.declared.tokens.Receipt.{Receipt}
 
 -- each version of the receipt stands on its slot's line, with its number, under the receipt's ticket

@@ -1,13 +1,13 @@
 -- What stands of a run that a fault ended (this project's own).
 use Rattle.std.specs.Prelude.{◌≡◌, ◌≤◌, ℕ, List, length, All, nat_eq}
 use Rattle.std.specs.List.{IsDistinct}
-use Rattle.protocol.specs.declared.event.Event.{Event}
+use Rattle.events.specs.declared.event.Event.{Event}
 use Rattle.saverecord.specs.Logs.{Holds}
 use Rattle.saverecord.specs.Texts.{whole_alone}
 use Rattle.schedule.specs.declared.setup.Setup.{Setup}
 use Rattle.farmboard.specs.declared.tokens.Receipt.{Receipt}
 use Rattle.farmend.specs.Receipts.{StandsOn, tickets_of}
-use Rattle.farmboard.specs.Replays.{farm_after, commits_after}
+use Rattle.farmhistory.specs.Replays.{farm_after, commits_after}
 
 -- the replay of the setup and the events has the bytes as its record, and these commits; the receipts are on its lines,
 -- each under a ticket of its own, and at most as many as the commits: a commit has none if nobody saw its end

@@ -1,7 +1,7 @@
 //! What a run leaves.
+use events::Event;
 use farmboard::{Board, Receipt};
 use jobs::Answer;
-use protocol::Event;
 
 /// What the threads of a run hand back, beside their executors.
 #[derive(Drop)]

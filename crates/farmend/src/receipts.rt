@@ -3,20 +3,14 @@ ghost use Rattle.std.specs.Prelude.{◌≡◌, All, Some, IfOk, IsTrue, nat_eq};
 ghost use Rattle.std.specs.List.{IsDistinct};
 ghost use Rattle.std.specs.List.Sorted.{IsStrictlyIncreasing};
 ghost use Rattle.world.specs.Shown.{shown};
-ghost use Rattle.farmboard.specs.Settling.{number_on};
+ghost use Rattle.farmhistory.specs.Lines.{number_on};
 ghost use Rattle.farmend.specs.Receipts.{StandsOn, tickets_of};
 
-use farm_base::{Slot, Ticket, Version};
+use farm_base::{Ticket, Version};
 use farmboard::Receipt;
+use farmhistory::number_on;
 use std::alloc::{AllocError, Global};
 use world::World;
-
-/// The number of the version that stands on the slot's line under the ticket.
-fn number_on(world: &World, ticket: Ticket, slot: &Slot) -> Option<u64>
-    ensures { result ≡ number_on (shown world.now) ticket slot.now }
-{
-    world.coordinator().line(slot)?.number_of(ticket)
-}
 
 /// Whether a version stands on its slot's line, with its number, under the ticket.
 fn stands(world: &World, ticket: Ticket, version: &Version) -> bool

@@ -6,16 +6,17 @@ use Rattle.farm_base.specs.declared.digest.Key.{Key}
 use Rattle.ordering.specs.Flags.{flag_at}
 use Rattle.jobs.specs.declared.answer.Answer.TheVariants as answers
 use Rattle.jobs.specs.declared.answer.JobsRefusal.TheVariants.{NoOutput}
-use Rattle.jobs.specs.declared.entry.Entry.{Entry}
-use Rattle.jobs.specs.declared.entry.Progress.TheVariants.{Done}
-use Rattle.jobs.specs.declared.table.Table.{Table}
-use Rattle.jobs.specs.Failing.{IsSubmitted, IsDone, Fails}
+use Rattle.keytable.specs.declared.entry.Entry.{Entry}
+use Rattle.keytable.specs.declared.entry.Progress.TheVariants.{Done}
+use Rattle.keytable.specs.declared.table.Table.{Table}
+use Rattle.keytable.specs.Failing.{IsSubmitted, IsDone, Fails}
 use Rattle.jobs.specs.declared.answer.Answer.{Answer}
 use Rattle.jobs.specs.declared.answer.JobsRefusal.{JobsRefusal}
 use Rattle.jobs.specs.History.{History, IsAnswer, output, lacks, fails, waits}
-use Rattle.jobs.specs.Kept.{AreKept, history}
-use Rattle.jobs.proofs.MarkLemmas.{all_marked, distinct, one_entry, read_at}
-use Rattle.jobs.proofs.TableLemmas.{one_number}
+use Rattle.keytable.specs.Kept.{AreKept}
+use Rattle.jobs.specs.Kept.{history}
+use Rattle.keytable.proofs.MarkLemmas.{all_marked, distinct, one_entry, read_at}
+use Rattle.keytable.proofs.TableLemmas.{one_number}
 
 module _ (t : Table) (marks : List Bool) (h : AreKept t marks) (wanted : Key × ℕ) where
   abbrev es : List Entry
@@ -78,3 +79,7 @@ no_job results list keys h job given view same past wanted is =
     let within = slice_get_within h.jobs job wanted is in
     let len = ap length same ∙ ap (λ (y : History). length y.jobs) view in
     absurd (omega (arith, within, len, past))
+
+-- the job at a place of what a table of jobs is seen as
+pub shown_at : (results list : List (Key × ℕ)) (keys : List Entry) (h : History) (job : ℕ) (x : Key × ℕ) → history results keys ≡ h → list ≡ results → slice_get list job ≡ Some x → slice_get h.jobs job ≡ Some x
+shown_at results list keys h job x view same there = sym (ap (λ (y : History). slice_get y.jobs job) view) ∙ ap (λ (xs : List (Key × ℕ)). slice_get xs job) (sym same) ∙ there

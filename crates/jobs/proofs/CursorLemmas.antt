@@ -5,14 +5,14 @@ use Rattle.std.proofs.lemmas.List.{length-set, length-append, length-replicate, 
 use Rattle.farm_base.specs.declared.digest.Key.{Key}
 use Rattle.lists.proofs.Places.{at_place, get_set_cases, some_is}
 use Rattle.vertices.specs.Loading.{GraphParts}
-use Rattle.jobs.specs.declared.entry.Entry.{Entry}
-use Rattle.jobs.specs.declared.entry.Fault.{Fault}
-use Rattle.jobs.specs.declared.entry.Progress.{Progress}
-use Rattle.jobs.specs.declared.entry.Progress.TheVariants.{Done, Failed}
-use Rattle.jobs.specs.Adding.{AreAdded}
+use Rattle.keytable.specs.declared.entry.Entry.{Entry}
+use Rattle.keytable.specs.declared.entry.Fault.{Fault}
+use Rattle.keytable.specs.declared.entry.Progress.{Progress}
+use Rattle.keytable.specs.declared.entry.Progress.TheVariants.{Done, Failed}
+use Rattle.keytable.specs.Adding.{AreAdded}
 use Rattle.jobs.specs.ReadyLists.{AreCursors, AreThereBefore}
 use Rattle.jobs.proofs.AddLemmas.{added_grows, added_left}
-use Rattle.jobs.proofs.ProgressLemmas.{Grows, has_grows, moved_grows}
+use Rattle.keytable.proofs.ProgressLemmas.{Grows, has_grows, moved_grows}
 
 -- what is there stays there
 before_grows : (old new : List Entry) → Grows old new → (place : ℕ) (inputs : List (Key × ℕ)) → AreThereBefore old place inputs → AreThereBefore new place inputs

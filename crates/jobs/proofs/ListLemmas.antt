@@ -16,7 +16,7 @@ use Rattle.std.proofs.lemmas.Option.{slice_get_within}
 use Rattle.farm_base.specs.declared.digest.Key.{Key}
 use Rattle.lists.proofs.Places.{Contains-cases, Contains-head, Contains-tail, some_is}
 use Rattle.vertices.proofs.ZipLemmas.{all_zip_length}
-use Rattle.jobs.specs.declared.entry.Entry.{Entry}
+use Rattle.keytable.specs.declared.entry.Entry.{Entry}
 use Rattle.jobs.specs.declared.ready_list.ReadyList.{ReadyList}
 use Rattle.jobs.specs.ReadyLists.{IsReadyAt, IsHandedAt, IsKeyAt, IsList, listed, taken}
 

@@ -1,58 +1,27 @@
 -- Which keys are ready.
-use Rattle.std.proofs.Common.{◌≡◌, ℕ, ◌+◌, ◌<◌, ◌≤◌, inl, inr, Bool, true, false, not, List, [], ◌∷◌, ◌++◌, length, take, set, get_or, Option, Some, None, is_some, IfSome, IfNone, slice_get, ap, sym, ◌∙◌, subst, arith}
+use Rattle.std.proofs.Common.{◌≡◌, ℕ, ◌+◌, ◌<◌, ◌≤◌, inl, inr, Bool, true, false, not, List, length, set, get_or, Option, Some, is_some, IfSome, IfNone, slice_get, ap, sym, ◌∙◌, subst, arith}
 use Rattle.std.specs.Bool.{MatchBool}
-use Rattle.std.specs.List.{Contains, AllZip}
+use Rattle.std.specs.List.{Contains}
 use Rattle.std.proofs.lemmas.Bool.{cases_eq}
 use Rattle.std.proofs.lemmas.List.{length-set}
-use Rattle.std.proofs.lemmas.List.Elements.{Contains-get_or}
-use Rattle.std.proofs.lemmas.Option.{slice_get_within, slice_get-get_or}
+use Rattle.std.proofs.lemmas.Option.{slice_get_within}
 use Rattle.farm_base.specs.declared.digest.Digest.{Digest}
 use Rattle.farm_base.specs.declared.digest.Key.{Key}
-use Rattle.lists.proofs.Places.{AllZip-push, Contains-at, at_Contains, at_place, some_is, take_push, get_set_cases}
+use Rattle.lists.proofs.Places.{Contains-at, at_Contains, at_place, some_is, get_set_cases}
 use Rattle.ordering.specs.Flags.{flag_at}
-use Rattle.jobs.specs.declared.entry.Entry.{Entry}
-use Rattle.jobs.specs.declared.entry.Progress.TheVariants.{Waiting, Out, Done}
-use Rattle.jobs.specs.declared.table.Table.{Table}
-use Rattle.jobs.specs.Failing.{HasOutput, AreThere, IsReady}
-use Rattle.jobs.specs.Kept.{AreKept}
+use Rattle.keytable.specs.declared.entry.Entry.{Entry}
+use Rattle.keytable.specs.declared.entry.Progress.TheVariants.{Waiting, Out, Done}
+use Rattle.keytable.specs.declared.table.Table.{Table}
+use Rattle.keytable.specs.Failing.{HasOutput, AreThere, IsReady}
+use Rattle.keytable.specs.Kept.{AreKept}
 use Rattle.jobs.specs.ReadyLists.{AreThereBefore, IsReadyAt}
-use Rattle.jobs.specs.Marks.{IsLost, is_marked, is_lacking, MarksLost, AreMarks}
-use Rattle.jobs.specs.Tables.{key_of, IsTable}
-use Rattle.jobs.proofs.MarkLemmas.{all_marked, distinct, one_entry, read_at}
-use Rattle.jobs.proofs.ProgressLemmas.{moved_grows, moved_fail, moved_called}
-use Rattle.jobs.proofs.TableLemmas.{one_number}
-
--- ---- the output that an input names
-
-module _ (t : Table) (h : IsTable t) (input : Key × ℕ) (n : ℕ) (e x : Entry) (at : slice_get t.entries.items n ≡ Some e) (named : e.key ≡ input.0) (read : x ≡ get_or t.entries.items n x) where
-  -- what is done is the entry's
-  done_at : (digest : Digest) (has : HasOutput t.entries.items input digest) → x.progress ≡ Done has.outputs
-  done_at digest has =
-      let s = has.done.submitted in
-      let same = one_entry t.entries.items (distinct t h) s.number n has.done.entry e s.at at (s.named ∙ sym named) in
-      ap (λ (y : Entry). y.progress) (sym (read_at t.entries.items n e x at read) ∙ sym same) ∙ has.done.done
-
-  pub none_undone : ((outputs : List Digest) → x.progress ≡ Done outputs → ⊥) → (digest : Digest) → HasOutput t.entries.items input digest → ⊥
-  none_undone never digest has = never has.outputs (done_at digest has)
-
-  pub none_lacking : (outputs list : List Digest) (r : Option Digest) → x.progress ≡ Done outputs → list ≡ outputs → r ≡ slice_get list input.1
-      → IfNone r ((digest : Digest) → HasOutput t.entries.items input digest → ⊥)
-  none_lacking outputs list (Some d) done same is = tt
-  none_lacking outputs list None done same is = λ digest has.
-      let both : Done outputs ≡ Done has.outputs = sym done ∙ done_at digest has in
-      let one : outputs ≡ has.outputs = cc in
-      let bad : None ≡ Some digest = is ∙ ap (λ (xs : List Digest). slice_get xs input.1) (same ∙ one) ∙ has.there in
-      cc bad
+use Rattle.keytable.specs.Marks.{IsLost, is_marked, is_lacking, MarksLost, AreMarks}
+use Rattle.keytable.specs.Tables.{key_of}
+use Rattle.keytable.proofs.MarkLemmas.{all_marked, distinct, read_at}
+use Rattle.keytable.proofs.ProgressLemmas.{moved_grows, moved_fail, moved_called}
+use Rattle.keytable.proofs.TableLemmas.{if_none, if_some, one_number}
 
 -- ---- all inputs
-
-pub if_none : {A P : Type 0} (r : Option A) (b : Bool) → is_some r ≡ not b → b ≡ true → IfNone r P → P
-if_none None b is met h = h
-if_none (Some x) b is met h = absurd (cc (is, met))
-
-pub if_some : {A : Type 0} {P : A → Type 0} (r : Option A) (b : Bool) → is_some r ≡ not b → b ≡ false → IfSome r P → (x : A) × P x
-if_some None b is unmet h = absurd (cc (is, unmet))
-if_some (Some x) b is unmet h = (x, h)
 
 module _ (es : List Entry) (inputs : List (Key × ℕ)) where
   -- one that isn't there
@@ -121,22 +90,6 @@ ready_met es n b within met is =
 
 pub ready_unmet : (es : List Entry) (n : ℕ) (b : Bool) → b ≡ false → ((entry : Entry) → slice_get es n ≡ Some entry → MatchBool b (IsReady es entry) (IsReady es entry → ⊥)) → IsReadyAt es n → ⊥
 ready_unmet es n b unmet is r = on_false (IsReady es r.entry) (IsReady es r.entry → ⊥) b unmet (is r.entry r.at) r.ready
-
--- ---- the outputs of a task
-
--- one more output
-pub zip_more : (es : List Entry) (inputs : List (Key × ℕ)) (k : ℕ) (d : Key × ℕ) (outputs now : List Digest) (output : Digest) → k < length inputs → AllZip (HasOutput es) (take k inputs) outputs
-    → HasOutput es (get_or inputs k d) output → now ≡ outputs ++ output ∷ [] → AllZip (HasOutput es) (take (k + 1) inputs) now
-zip_more es inputs k d outputs now output within h has is =
-    let input = get_or inputs k d in
-    subst (λ (xs : List (Key × ℕ)). AllZip (HasOutput es) xs now) (sym (take_push inputs k input (slice_get-get_or inputs k d within)))
-    (subst (AllZip (HasOutput es) (take k inputs ++ input ∷ [])) (sym is) (AllZip-push (HasOutput es) (take k inputs) outputs input output h has))
-
--- an input that is there has its output
-pub has_no_none : (es : List Entry) (inputs : List (Key × ℕ)) (k : ℕ) (d : Key × ℕ) → k < length inputs → AreThere es inputs → ((digest : Digest) → HasOutput es (get_or inputs k d) digest → ⊥) → ⊥
-has_no_none es inputs k d within all none =
-    let has = all (get_or inputs k d) (Contains-get_or inputs k d within) in
-    none has.0 has.1
 
 -- ---- a key is handed out
 

@@ -6,10 +6,10 @@ use Rattle.farm_base.specs.declared.digest.Key.{Key}
 use Rattle.jobs.specs.declared.answer.Answer.{Answer}
 use Rattle.jobs.specs.declared.answer.Answer.TheVariants as answers
 use Rattle.jobs.specs.declared.answer.JobsRefusal.{JobsRefusal}
-use Rattle.jobs.specs.declared.entry.Entry.{Entry}
-use Rattle.jobs.specs.declared.entry.Progress.{Progress}
-use Rattle.jobs.specs.declared.entry.Progress.TheVariants.{Waiting, Out, Done, Failed}
-use Rattle.jobs.specs.Failing.{IsSubmitted, IsDone, HasOutput, Fails, called, input_fails, input_lacks}
+use Rattle.keytable.specs.declared.entry.Entry.{Entry}
+use Rattle.keytable.specs.declared.entry.Progress.{Progress}
+use Rattle.keytable.specs.declared.entry.Progress.TheVariants.{Waiting, Out, Done, Failed}
+use Rattle.keytable.specs.Failing.{IsSubmitted, IsDone, HasOutput, Fails, called, input_fails, input_lacks}
 use Rattle.jobs.specs.History.{History, IsAnswer, output, lacks, fails, waits}
 use Rattle.jobs.specs.Rests.{IsWhole, IsRanked, IsAtRest}
 

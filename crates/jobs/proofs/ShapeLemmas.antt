@@ -1,135 +1,82 @@
--- The users' lists where entries change, and which keys that makes ready.
+-- Which keys are ready where entries change.
 use Rattle.std.proofs.Common.{◌≡◌, ℕ, ◌<◌, ◌⊎◌, inl, inr, List, [], ◌∷◌, map, length, set, Some, slice_get, refl, ap, sym, ◌∙◌, subst, arith}
 use Rattle.std.specs.List.{Contains, IsDistinct}
 use Rattle.std.proofs.lemmas.Bool.{cases_eq}
 use Rattle.farm_base.specs.declared.digest.Digest.{Digest}
 use Rattle.farm_base.specs.declared.digest.Key.{Key}
-use Rattle.lists.proofs.Places.{get-set_same, get-set_other, get_set_cases, some_is, at_place, Contains-cases, Contains-head, Contains-tail}
+use Rattle.lists.proofs.Places.{get-set_same, get-set_other, some_is, at_place, Contains-cases, Contains-head, Contains-tail}
 use Rattle.vertices.specs.Loading.{GraphParts}
-use Rattle.jobs.specs.declared.entry.Entry.{Entry}
-use Rattle.jobs.specs.declared.entry.Progress.{Progress}
-use Rattle.jobs.specs.declared.entry.Progress.TheVariants.{Waiting, Out}
-use Rattle.jobs.specs.declared.users.Users.{Users}
-use Rattle.jobs.specs.Adding.{AreAdded}
-use Rattle.jobs.specs.Failing.{HasOutput, AreThere}
+use Rattle.keytable.specs.declared.entry.Entry.{Entry}
+use Rattle.keytable.specs.declared.entry.Progress.{Progress}
+use Rattle.keytable.specs.declared.entry.Progress.TheVariants.{Waiting, Out}
+use Rattle.keytable.specs.declared.users.Users.{Users}
+use Rattle.keytable.specs.Adding.{AreAdded}
+use Rattle.keytable.specs.Failing.{HasOutput, AreThere}
 use Rattle.jobs.specs.ReadyLists.{IsReadyAt}
-use Rattle.jobs.specs.Tables.{key_eq, key_of}
-use Rattle.jobs.specs.Users.{IsClosed, IsUser, AreUsers}
+use Rattle.keytable.specs.Tables.{key_eq, key_of}
+use Rattle.keytable.specs.Users.{IsClosed, IsUser, AreUsers}
 use Rattle.jobs.proofs.AddLemmas.{added_left, added_waits, added_grows}
-use Rattle.jobs.proofs.ProgressLemmas.{Grows, fails_grows, moved_grows}
-use Rattle.jobs.proofs.TableLemmas.{one_number}
+use Rattle.keytable.proofs.ProgressLemmas.{Grows, fails_grows, moved_grows}
+use Rattle.keytable.proofs.ShapeLemmas.{user_shapes}
+use Rattle.keytable.proofs.TableLemmas.{one_number}
 
--- each entry of the one list is in the other, with its key and its inputs
-abbrev pub Shapes : List Entry → List Entry → Type 0
-Shapes old new = (n : ℕ) (e : Entry) → slice_get old n ≡ Some e → (f : Entry) × (slice_get new n ≡ Some f) × (f.key ≡ e.key) × (f.inputs ≡ e.inputs)
+-- ---- a key moves on
 
-abbrev pub user_shapes : (old new : List Entry) → Shapes old new → (user source : ℕ) → IsUser old user source → IsUser new user source
-user_shapes old new s user source i =
-    let a = s user i.entry i.at in
-    let b = s source i.of i.of_at in
-    record {
-      entry = a.0;
-      at = a.1;
-      of = b.0;
-      of_at = b.1;
-      input = i.input;
-      has = subst (λ (xs : List (Key × ℕ)). Contains xs i.input) (sym a.3) i.has;
-      named = b.2 ∙ i.named;
-    }
+module _ (es : List Entry) (n : ℕ) (e : Entry) (at : slice_get es n ≡ Some e) (to : Progress) (now : List Entry) (now_is : now ≡ set es n (record e { progress = to })) where
+  here : slice_get now n ≡ Some (record e { progress = to })
+  here = ap (λ (xs : List Entry). slice_get xs n) now_is ∙ get-set_same es n (record e { progress = to }) e at
 
-pub users_shapes : (old new : List Entry) (u : Users) → Shapes old new → Shapes new old → AreUsers old u → AreUsers new u
-users_shapes old new u forth back h = record {
-  linked = h.linked;
-  all = h.all;
-  inputs = λ place link at. (let i = h.inputs place link at in record { user = user_shapes old new forth link.user link.source i.user; index = i.index });
-  noted = λ n less entry input at has source other there key.
-      let a = back n entry at in
-      let b = back source other there in
-      h.noted n less a.0 input a.1 (subst (λ (xs : List (Key × ℕ)). Contains xs input) (sym a.3) has) source b.0 b.1 (b.2 ∙ key);
-}
-
-pub closed_shapes : (old new : List Entry) → Shapes old new → Shapes new old → IsClosed old → IsClosed new
-closed_shapes old new forth back closed n e input at has =
-    let a = back n e at in
-    let s = closed n a.0 input a.1 (subst (λ (xs : List (Key × ℕ)). Contains xs input) (sym a.3) has) in
-    let f = forth s.1.number s.0 s.1.at in
-    (f.0, record { number = s.1.number; at = f.1; named = f.2 ∙ s.1.named })
-
-module _ (es : List Entry) (n : ℕ) (e : Entry) (at : slice_get es n ≡ Some e) (to : Progress) where
-  moved_forth : Shapes es (set es n (record e { progress = to }))
-  moved_forth m f there = elim (cases_eq m n) [
-    | inl same ↦ (let is : e ≡ f = some_is e f (sym at ∙ ap (slice_get es) (sym same) ∙ there) in
-        (record e { progress = to }, ap (slice_get (set es n (record e { progress = to }))) same ∙ get-set_same es n (record e { progress = to }) e at, ap (λ (x : Entry). x.key) is, ap (λ (x : Entry). x.inputs) is))
-    | inr apart ↦ (f, get-set_other es n m (record e { progress = to }) apart ∙ there, refl, refl)
-  ]
-
-  moved_back : Shapes (set es n (record e { progress = to })) es
-  moved_back m f there = elim (get_set_cases es n m (record e { progress = to }) e f at there) [
-    | inl same ↦ (e, ap (slice_get es) same.0 ∙ at, ap (λ (x : Entry). x.key) same.1, ap (λ (x : Entry). x.inputs) same.1)
-    | inr other ↦ (f, other.1, refl, refl)
-  ]
-
-  pub users_moved : (now : List Entry) (u : Users) → now ≡ set es n (record e { progress = to }) → AreUsers es u → AreUsers now u
-  users_moved now u now_is h = subst (λ (xs : List Entry). AreUsers xs u) (sym now_is) (users_shapes es (set es n (record e { progress = to })) u moved_forth moved_back h)
-
-  pub closed_moved : (now : List Entry) → now ≡ set es n (record e { progress = to }) → IsClosed es → IsClosed now
-  closed_moved now now_is h = subst IsClosed (sym now_is) (closed_shapes es (set es n (record e { progress = to })) moved_forth moved_back h)
-
-  module _ (now : List Entry) (now_is : now ≡ set es n (record e { progress = to })) where
-    here : slice_get now n ≡ Some (record e { progress = to })
-    here = ap (λ (xs : List Entry). slice_get xs n) now_is ∙ get-set_same es n (record e { progress = to }) e at
-
-    -- what has an output had it before, or is of this key
-    output_cases : (input : Key × ℕ) (digest : Digest) → HasOutput now input digest → HasOutput es input digest ⊎ (e.key ≡ input.0)
-    output_cases input digest o =
-        let s = o.done.submitted in
-        elim (cases_eq s.number n) [
-          | inl same ↦ inr (ap key_of (some_is (record e { progress = to }) o.done.entry (sym here ∙ ap (slice_get now) (sym same) ∙ s.at)) ∙ s.named)
-          | inr apart ↦ inl (record {
-            outputs = o.outputs;
-            done = record {
-              entry = o.done.entry;
-              submitted = record { number = s.number; at = sym (get-set_other es n s.number (record e { progress = to }) apart) ∙ ap (λ (xs : List Entry). slice_get xs s.number) (sym now_is) ∙ s.at; named = s.named };
-              done = o.done.done;
-            };
-            there = o.there;
-          })
-        ]
-
-    split : (inputs : List (Key × ℕ)) → AreThere now inputs → AreThere es inputs ⊎ ((input : Key × ℕ) × Contains inputs input × (e.key ≡ input.0))
-    split [] all = inl (λ input c. absurd (omega (arith, c.1)))
-    split (x ∷ xs) all =
-        let o = all x (Contains-head x xs) in
-        elim (output_cases x o.0 o.1) [
-          | inr named ↦ inr (x, Contains-head x xs, named)
-          | inl before ↦ elim (split xs (λ input c. all input (Contains-tail x xs input c))) [
-            | inr found ↦ inr (found.0, Contains-tail x xs found.0 found.1, found.2)
-            | inl rest ↦ inl (λ input c. elim (Contains-cases x xs input c) [
-              | inl same ↦ subst (λ (i : Key × ℕ). (digest : Digest) × HasOutput es i digest) same (o.0, before)
-              | inr behind ↦ rest input behind
-            ])
-          ]
-        ]
-
-    -- what is ready was ready before, or is a user of this key
-    pub ready_cases : e.progress ≡ Out → (to ≡ Waiting → ⊥) → (m : ℕ) → IsReadyAt now m → IsReadyAt es m ⊎ IsUser now m n
-    ready_cases out goes m r = elim (cases_eq m n) [
-      | inl same ↦ absurd (goes (ap (λ (x : Entry). x.progress) (some_is (record e { progress = to }) r.entry (sym here ∙ ap (slice_get now) (sym same) ∙ r.at)) ∙ r.ready.waiting))
-      | inr apart ↦ elim (split r.entry.inputs r.ready.inputs) [
-        | inl before ↦ inl (record {
-          entry = r.entry;
-          at = sym (get-set_other es n m (record e { progress = to }) apart) ∙ ap (λ (xs : List Entry). slice_get xs m) (sym now_is) ∙ r.at;
-          ready = record {
-            waiting = r.ready.waiting;
-            not_failing = λ f.
-                let grows : Grows es now = subst (Grows es) (sym now_is) (moved_grows es n e at to (λ outputs done. cc (out, done)) (λ fault failed. cc (out, failed))) in
-                r.ready.not_failing (fails_grows es now grows r.entry.key f);
-            inputs = before;
+  -- what has an output had it before, or is of this key
+  output_cases : (input : Key × ℕ) (digest : Digest) → HasOutput now input digest → HasOutput es input digest ⊎ (e.key ≡ input.0)
+  output_cases input digest o =
+      let s = o.done.submitted in
+      elim (cases_eq s.number n) [
+        | inl same ↦ inr (ap key_of (some_is (record e { progress = to }) o.done.entry (sym here ∙ ap (slice_get now) (sym same) ∙ s.at)) ∙ s.named)
+        | inr apart ↦ inl (record {
+          outputs = o.outputs;
+          done = record {
+            entry = o.done.entry;
+            submitted = record { number = s.number; at = sym (get-set_other es n s.number (record e { progress = to }) apart) ∙ ap (λ (xs : List Entry). slice_get xs s.number) (sym now_is) ∙ s.at; named = s.named };
+            done = o.done.done;
           };
+          there = o.there;
         })
-        | inr found ↦ inr (record { entry = r.entry; at = r.at; of = record e { progress = to }; of_at = here; input = found.0; has = found.1; named = found.2 })
       ]
+
+  split : (inputs : List (Key × ℕ)) → AreThere now inputs → AreThere es inputs ⊎ ((input : Key × ℕ) × Contains inputs input × (e.key ≡ input.0))
+  split [] all = inl (λ input c. absurd (omega (arith, c.1)))
+  split (x ∷ xs) all =
+      let o = all x (Contains-head x xs) in
+      elim (output_cases x o.0 o.1) [
+        | inr named ↦ inr (x, Contains-head x xs, named)
+        | inl before ↦ elim (split xs (λ input c. all input (Contains-tail x xs input c))) [
+          | inr found ↦ inr (found.0, Contains-tail x xs found.0 found.1, found.2)
+          | inl rest ↦ inl (λ input c. elim (Contains-cases x xs input c) [
+            | inl same ↦ subst (λ (i : Key × ℕ). (digest : Digest) × HasOutput es i digest) same (o.0, before)
+            | inr behind ↦ rest input behind
+          ])
+        ]
+      ]
+
+  -- what is ready was ready before, or is a user of this key
+  pub ready_cases : e.progress ≡ Out → (to ≡ Waiting → ⊥) → (m : ℕ) → IsReadyAt now m → IsReadyAt es m ⊎ IsUser now m n
+  ready_cases out goes m r = elim (cases_eq m n) [
+    | inl same ↦ absurd (goes (ap (λ (x : Entry). x.progress) (some_is (record e { progress = to }) r.entry (sym here ∙ ap (slice_get now) (sym same) ∙ r.at)) ∙ r.ready.waiting))
+    | inr apart ↦ elim (split r.entry.inputs r.ready.inputs) [
+      | inl before ↦ inl (record {
+        entry = r.entry;
+        at = sym (get-set_other es n m (record e { progress = to }) apart) ∙ ap (λ (xs : List Entry). slice_get xs m) (sym now_is) ∙ r.at;
+        ready = record {
+          waiting = r.ready.waiting;
+          not_failing = λ f.
+              let grows : Grows es now = subst (Grows es) (sym now_is) (moved_grows es n e at to (λ outputs done. cc (out, done)) (λ fault failed. cc (out, failed))) in
+              r.ready.not_failing (fails_grows es now grows r.entry.key f);
+          inputs = before;
+        };
+      })
+      | inr found ↦ inr (record { entry = r.entry; at = r.at; of = record e { progress = to }; of_at = here; input = found.0; has = found.1; named = found.2 })
     ]
+  ]
 
 -- ---- keys are added
 

@@ -12,18 +12,18 @@ use Rattle.farm_base.specs.declared.digest.Digest.{Digest}
 use Rattle.farm_base.specs.declared.digest.Key.{Key}
 use Rattle.lists.proofs.Places.{get-set_same, get-set_other, get_set_cases, some_is, Contains-cases, Contains-head, Contains-tail, take_push}
 use Rattle.lists.proofs.Rising.{tail_rises}
-use Rattle.jobs.specs.declared.entry.Entry.{Entry}
-use Rattle.jobs.specs.declared.entry.Fault.{Fault}
-use Rattle.jobs.specs.declared.entry.Progress.{Progress}
-use Rattle.jobs.specs.declared.entry.Progress.TheVariants.{Waiting, Out, Done, Failed}
+use Rattle.keytable.specs.declared.entry.Entry.{Entry}
+use Rattle.keytable.specs.declared.entry.Fault.{Fault}
+use Rattle.keytable.specs.declared.entry.Progress.{Progress}
+use Rattle.keytable.specs.declared.entry.Progress.TheVariants.{Waiting, Out, Done, Failed}
 use Rattle.jobs.specs.declared.ready_list.ReadyList.{ReadyList}
-use Rattle.jobs.specs.Failing.{HasOutput, Fails, called, input_fails, input_lacks, AreThere, IsReady}
+use Rattle.keytable.specs.Failing.{HasOutput, Fails, called, input_fails, input_lacks, AreThere, IsReady}
 use Rattle.jobs.specs.History.{History, IsFirstReady, Moves, TakesFirst}
 use Rattle.jobs.specs.Kept.{history}
 use Rattle.jobs.specs.ReadyLists.{IsReadyAt, IsHandedAt, IsKeyAt, AreReadyKeys, AreHandedRight, IsList, IsSameList, ListsAll, HasRoom, listed, taken}
-use Rattle.jobs.specs.Tables.{key_eq, key_of}
-use Rattle.jobs.proofs.MarkLemmas.{one_entry}
-use Rattle.jobs.proofs.ProgressLemmas.{Grows, has_grows, fails_grows, moved_grows}
+use Rattle.keytable.specs.Tables.{key_eq, key_of}
+use Rattle.keytable.proofs.MarkLemmas.{one_entry}
+use Rattle.keytable.proofs.ProgressLemmas.{Grows, has_grows, fails_grows, moved_grows}
 
 -- ---- ready is waiting with all inputs there
 

@@ -7,10 +7,10 @@ use Rattle.jobs.specs.declared.answer.Answer.{Answer}
 use Rattle.jobs.specs.declared.answer.Answer.TheVariants as answers
 use Rattle.jobs.specs.declared.answer.JobsRefusal.{JobsRefusal}
 use Rattle.jobs.specs.declared.answer.JobsRefusal.TheVariants.{NoOutput}
-use Rattle.jobs.specs.declared.entry.Entry.{Entry}
-use Rattle.jobs.specs.declared.entry.Progress.{Progress}
-use Rattle.jobs.specs.declared.entry.Progress.TheVariants.{Out}
-use Rattle.jobs.specs.Failing.{Fails, IsDone, HasOutput, LacksOutput, IsReady}
+use Rattle.keytable.specs.declared.entry.Entry.{Entry}
+use Rattle.keytable.specs.declared.entry.Progress.{Progress}
+use Rattle.keytable.specs.declared.entry.Progress.TheVariants.{Out}
+use Rattle.keytable.specs.Failing.{Fails, IsDone, HasOutput, LacksOutput, IsReady}
 
 -- the submitted jobs, each by the key and the output index of its result, and the submitted keys
 -- with their inputs and their progress, both in order

@@ -1,24 +1,17 @@
 -- What a table of jobs is made of (this project's own).
-use Rattle.std.specs.Prelude.{◌≡◌, ◌≤◌, ℕ, Bool, [], List, length}
+use Rattle.std.specs.Prelude.{◌≡◌, ◌≤◌, ℕ, [], List, length}
 use Rattle.std.specs.Vec.{vec_capacity}
 use Rattle.farm_base.specs.declared.digest.Key.{Key}
-use Rattle.jobs.specs.declared.entry.Entry.{Entry}
+use Rattle.keytable.specs.declared.entry.Entry.{Entry}
 use Rattle.jobs.specs.declared.known_keys.KnownKeys.{KnownKeys}
-use Rattle.jobs.specs.declared.table.Table.{Table}
 use Rattle.jobs.specs.History.{History}
-use Rattle.jobs.specs.Marks.{AreMarks}
 use Rattle.jobs.specs.ReadyLists.{AreCursors, AreHandedRight, IsList, ListsAll, HasRoom}
-use Rattle.jobs.specs.Tables.{IsTable}
-use Rattle.jobs.specs.Users.{AreUsers, IsClosed}
+use Rattle.keytable.specs.Kept.{AreKept}
+use Rattle.keytable.specs.Users.{AreUsers, IsClosed}
 
 -- the history of these jobs and keys
 abbrev pub history : List (Key × ℕ) → List Entry → History
 history jobs keys = record { jobs = jobs; keys = keys }
-
--- each key has its number, and exactly the keys that fail are marked
-pub record AreKept (table : Table) (marks : List Bool) : Type 0 where
-  pub numbered : IsTable table
-  pub marked : AreMarks table.entries.items marks
 
 -- the users of each key are listed too, and exactly the ready keys, with room for all keys
 pub record AreListed (known : KnownKeys) : Type 0 where

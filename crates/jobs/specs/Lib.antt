@@ -1,15 +1,5 @@
-pub mod Adding
-pub mod Causes
-pub mod Failing
 pub mod History
 pub mod Kept
-pub mod Marks
-pub mod Needs
-pub mod Reaching
 pub mod ReadyLists
 pub mod Rests
-pub mod Searching
-pub mod Spreading
-pub mod Tables
 pub mod Tasks
-pub mod Users

@@ -6,10 +6,10 @@ use Rattle.std.specs.Vec.{vec_capacity}
 use Rattle.std.specs.Prelude.{nat_eq}
 use Rattle.farm_base.specs.declared.digest.Digest.{Digest}
 use Rattle.farm_base.specs.declared.digest.Key.{Key}
-use Rattle.jobs.specs.declared.entry.Entry.{Entry}
-use Rattle.jobs.specs.declared.entry.Progress.TheVariants.{Waiting}
+use Rattle.keytable.specs.declared.entry.Entry.{Entry}
+use Rattle.keytable.specs.declared.entry.Progress.TheVariants.{Waiting}
 use Rattle.jobs.specs.declared.ready_list.ReadyList.{ReadyList}
-use Rattle.jobs.specs.Failing.{AreThere, HasOutput, IsReady}
+use Rattle.keytable.specs.Failing.{AreThere, HasOutput, IsReady}
 
 module _ (keys : List Entry) where
   -- the key of this number is ready

@@ -2,11 +2,11 @@
 use Rattle.std.specs.Prelude.{◌≡◌, ◌<◌, ℕ, Some, slice_get}
 use Rattle.std.specs.List.{Contains}
 use Rattle.farm_base.specs.declared.digest.Key.{Key}
-use Rattle.jobs.specs.declared.entry.Entry.{Entry}
-use Rattle.jobs.specs.declared.entry.Progress.TheVariants.{Out}
-use Rattle.jobs.specs.Failing.{IsSubmitted}
+use Rattle.keytable.specs.declared.entry.Entry.{Entry}
+use Rattle.keytable.specs.declared.entry.Progress.TheVariants.{Out}
+use Rattle.keytable.specs.Failing.{IsSubmitted}
 use Rattle.jobs.specs.History.{History, HasNoReady}
-use Rattle.jobs.specs.Users.{IsClosed}
+use Rattle.keytable.specs.Users.{IsClosed}
 
 module _ (h : History) where
   -- each key that a job or an input names was submitted

@@ -3,9 +3,9 @@ use Rattle.std.specs.Prelude.{◌≡◌, List, [], ◌∷◌, ◌++◌}
 use Rattle.farm_base.specs.declared.digest.Digest.{Digest}
 use Rattle.farm_base.specs.declared.digest.Key.{Key}
 use Rattle.vertices.specs.Loading.{GraphParts}
-use Rattle.jobs.specs.declared.entry.Fault.{Fault}
-use Rattle.jobs.specs.declared.entry.Progress.TheVariants.{Out, Done, Failed}
-use Rattle.jobs.specs.Adding.{AreAdded}
+use Rattle.keytable.specs.declared.entry.Fault.{Fault}
+use Rattle.keytable.specs.declared.entry.Progress.TheVariants.{Out, Done, Failed}
+use Rattle.keytable.specs.Adding.{AreAdded}
 use Rattle.jobs.specs.History.{History, Moves, TakesFirst}
 
 -- calls that led from no keys to this history handed out these keys, in order

@@ -1,8 +1,10 @@
 ghost use Rattle.std.specs.Prelude.{◌≡◌};
+ghost use Rattle.keytable.specs.Kept.{AreKept};
 ghost use Rattle.jobs.specs.declared.answer.JobsRefusal.TheVariants as refusal;
+ghost use Rattle.jobs.specs.History.{IsAnswer};
 
-use super::entry::Fault;
 use farm_base::{Digest, Key};
+use keytable::{Progress, Table, output_at};
 use std::alloc::{AllocError, AllocFailed};
 use thiserror::Error;
 
@@ -19,15 +21,6 @@ pub enum Answer {
     Output(Digest),
     /// Its result never comes.
     Failed,
-}
-
-/// Why a job has no output.
-#[derive(Clone, Copy, PartialEq, Eq)]
-pub enum Cause {
-    /// This key was called failed, with this fault.
-    Failed(Key, Fault),
-    /// This key is done, but has no output of this index.
-    NoOutput(Key, u64),
 }
 
 /// Why a call was refused.
@@ -57,5 +50,27 @@ impl<T: Drop> From<AllocFailed<T>> for JobsRefusal {
 
     fn from(_error: AllocFailed<T>) -> JobsRefusal {
         JobsRefusal::OutOfMemory
+    }
+}
+
+/// The answer of the job with this result.
+pub(crate) fn answer_of(
+    table: &Table,
+    marks: &[bool],
+    wanted: &(Key, u64),
+) -> Result<Answer, JobsRefusal>
+    requires { AreKept table.now marks.now }
+    ensures { IsAnswer table.now.entries.items wanted.now result }
+{
+    let Some(number) = table.number(&wanted.0) else {
+        return Ok(Answer::Waiting);
+    };
+    match &table.entries[number].progress {
+        Progress::Done(outputs) => match output_at(outputs.as_slice(), wanted.1) {
+            Some(digest) => Ok(Answer::Output(*digest)),
+            None => Err(JobsRefusal::NoOutput(wanted.1)),
+        },
+        _ if marks[number] => Ok(Answer::Failed),
+        _ => Ok(Answer::Waiting),
     }
 }

@@ -1,26 +1,24 @@
 ghost use Rattle.std.specs.Prelude.{◌≡◌, ◌≤◌, ◌++◌, ◌∷◌, ℕ, [], length, Some, None, slice_get, OnOk, OnErr, IfErr, IfNone, IfOk, IfSome, IsSomeAnd};
-ghost use Rattle.jobs.specs.declared.entry.Entry.{Entry as SpecEntry};
-ghost use Rattle.jobs.specs.declared.entry.Progress.TheVariants.{Waiting, Out, Done, Failed};
+ghost use Rattle.keytable.specs.declared.entry.Entry.{Entry as SpecEntry};
+ghost use Rattle.keytable.specs.declared.entry.Progress.TheVariants.{Waiting, Out, Done, Failed};
 ghost use Rattle.jobs.specs.declared.answer.JobsRefusal.TheVariants as refusal;
 ghost use Rattle.farm_base.specs.declared.digest.Key.{Key as SpecKey};
 ghost use Rattle.solverkeys.specs.GraphKeys.{AreKeys};
-ghost use Rattle.jobs.specs.Adding.{AreAdded};
-ghost use Rattle.jobs.specs.Causes.{IsCause};
-ghost use Rattle.jobs.specs.Failing.{IsSubmitted};
+ghost use Rattle.keytable.specs.Adding.{AreAdded};
+ghost use Rattle.keytable.specs.Causes.{IsCause};
+ghost use Rattle.keytable.specs.Failing.{IsSubmitted};
 ghost use Rattle.jobs.specs.History.{HasNoReady, IsAnswer, Moves, TakesFirst};
-ghost use Rattle.jobs.specs.Needs.{NeedsOutput};
+ghost use Rattle.keytable.specs.Needs.{NeedsOutput};
 ghost use Rattle.jobs.specs.ReadyLists.{AreReadyKeys};
 
 use super::adding::add_job;
-use super::answer::{Answer, Cause, JobId, JobsRefusal};
-use super::blaming::cause_of;
-use super::entry::{Fault, Progress, Task};
+use super::answer::{Answer, JobId, JobsRefusal, answer_of};
 use super::known_keys::KnownKeys;
-use super::marking::answer_of;
-use super::needing::last_needed;
 use super::ready::task_of;
 use super::settling::finish;
+use super::task::Task;
 use farm_base::{Digest, Items, Key};
+use keytable::{Cause, Fault, Progress, cause_of, last_needed};
 use solverkeys::Keyed;
 use std::alloc::Global;
 use std::marker::Model;
@@ -192,8 +190,8 @@ impl Jobs {
     /// that leaves none of them missing. It looks at the users of the key and at each job, and takes no
     /// memory.
     pub fn last_output_needed(&self, key: &Key) -> Option<u64>
-        ensures needed { IfSome result (NeedsOutput self.now key.now) }
-        ensures greatest { (index : ℕ) → NeedsOutput self.now key.now index → IsSomeAnd result (λ last. index ≤ last) }
+        ensures needed { IfSome result (NeedsOutput self.now.jobs self.now.keys key.now) }
+        ensures greatest { (index : ℕ) → NeedsOutput self.now.jobs self.now.keys key.now index → IsSomeAnd result (λ last. index ≤ last) }
     {
         let (table, users) = (&self.known.table, &self.known.users);
         last_needed(table, users, self.results.as_slice(), key)

@@ -1,8 +1,7 @@
 ghost use Rattle.std.specs.Prelude.{◌≡◌, []};
 
 use super::ready_list::ReadyList;
-use super::table::Table;
-use super::users::Users;
+use keytable::{Table, Users};
 use std::alloc::Global;
 
 /// The submitted keys, and what is kept of them.

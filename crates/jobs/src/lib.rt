@@ -3,20 +3,15 @@
 
 mod adding;
 mod answer;
-mod blaming;
-mod entry;
 mod jobs;
 mod known_keys;
 pub mod laws;
-mod marking;
-mod needing;
-mod reaching;
 mod ready;
 mod ready_list;
 mod settling;
-mod table;
-mod users;
+mod task;
 
-pub use answer::{Answer, Cause, JobId, JobsRefusal};
-pub use entry::{Entry, Fault, Progress, Task};
+pub use answer::{Answer, JobId, JobsRefusal};
 pub use jobs::Jobs;
+pub use keytable::{Cause, Fault};
+pub use task::Task;

@@ -1,33 +1,18 @@
-ghost use Rattle.std.specs.Prelude.{◌≡◌, ◌<◌, ◌≤◌, ◌⊎◌, ℕ, length, slice_get, Some, IfOk, IfSome, IfNone};
+ghost use Rattle.std.specs.Prelude.{◌≡◌, ◌<◌, ◌≤◌, ◌⊎◌, ℕ, length, slice_get, Some, IfOk};
 ghost use Rattle.std.specs.Bool.{MatchBool};
 ghost use Rattle.std.specs.List.{AllZip, Contains};
-ghost use Rattle.farm_base.specs.declared.digest.Digest.{Digest as SpecDigest};
-ghost use Rattle.jobs.specs.declared.entry.Entry.{Entry as SpecEntry};
-ghost use Rattle.jobs.specs.Failing.{AreThere, HasOutput, IsReady};
-ghost use Rattle.jobs.specs.Kept.{AreKept};
+ghost use Rattle.keytable.specs.declared.entry.Entry.{Entry as SpecEntry};
+ghost use Rattle.keytable.specs.Failing.{AreThere, HasOutput, IsReady};
+ghost use Rattle.keytable.specs.Kept.{AreKept};
 ghost use Rattle.jobs.specs.ReadyLists.{AreCursors, AreThereBefore, IsList, IsReadyAt, ListsAll, HasRoom, listed};
-ghost use Rattle.jobs.specs.Tables.{IsTable};
-ghost use Rattle.jobs.specs.Users.{AreUsers, IsUser};
+ghost use Rattle.keytable.specs.Tables.{IsTable};
+ghost use Rattle.keytable.specs.Users.{AreUsers, IsUser};
 
-use super::entry::{Progress, Task};
 use super::ready_list::ReadyList;
-use super::table::{Table, output_at};
-use super::users::Users;
-use farm_base::{Digest, Key};
+use super::task::Task;
+use farm_base::Key;
+use keytable::{Progress, Table, Users, output_of, outputs_of};
 use std::alloc::{AllocError, Global};
-
-/// The output that an input names, if it is there.
-fn output_of(table: &Table, input: &(Key, u64)) -> Option<Digest>
-    requires { IsTable table.now }
-    ensures there { IfSome result (HasOutput table.now.entries.items input.now) }
-    ensures missing { IfNone result ((digest : SpecDigest) → HasOutput table.now.entries.items input.now digest → ⊥) }
-{
-    let number = table.number(&input.0)?;
-    match &table.entries[number].progress {
-        Progress::Done(outputs) => output_at(outputs.as_slice(), input.1).copied(),
-        _ => None,
-    }
-}
 
 /// Whether each input names an output that is there. Those before the cursor do, and it moves on to the
 /// first that doesn't.
@@ -127,26 +112,6 @@ pub(crate) fn list_users(
         look_at(table, marks, ready, users.links[place].user);
         next = users.befores[place];
     }
-}
-
-/// The outputs that inputs name. All of them are there.
-fn outputs_of(
-    alloc: Global,
-    table: &Table,
-    inputs: &[(Key, u64)],
-) -> Result<Vec<Digest>, AllocError>
-    requires table { IsTable table.now }
-    requires there { AreThere table.now.entries.items inputs.now }
-    ensures { IfOk result (λ outputs. AllZip (HasOutput table.now.entries.items) inputs.now outputs.items) }
-{
-    let mut outputs = Vec::with_capacity(alloc, inputs.len())?;
-    for input in inputs {
-        match output_of(table, input) {
-            Some(output) => outputs.push(output)?,
-            None => unreachable!(),
-        }
-    }
-    Ok(outputs)
 }
 
 /// The task of the key of a number. The outputs that its inputs name are there.

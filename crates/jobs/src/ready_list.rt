@@ -2,8 +2,8 @@ ghost use Rattle.std.specs.Prelude.{◌≡◌, ◌+◌, ◌<◌, ◌≤◌, ℕ,
 ghost use Rattle.std.specs.Vec.{vec_len, vec_capacity};
 ghost use Rattle.std.specs.List.{Contains};
 
-use super::table::Table;
 use farm_base::Key;
+use keytable::Table;
 use std::alloc::{AllocError, Global};
 
 /// The keys that were handed out, in that order, and behind them the ready ones by rising number.
@@ -31,7 +31,7 @@ fn put<T: Drop>(items: &mut Vec<T>, place: usize, item: T)
 
 impl ReadyList {
     ghost use Rattle.jobs.specs.ReadyLists.{AreCursors, IsList, IsReadyAt, IsSameList, ListsAll, HasRoom, listed};
-    ghost use Rattle.jobs.specs.Tables.{IsTable};
+    ghost use Rattle.keytable.specs.Tables.{IsTable};
 
     pub(crate) fn new(alloc: Global) -> Self
         ensures list { IsList [] result }

@@ -1,12 +1,11 @@
 ghost use Rattle.std.specs.Prelude.{◌≡◌, slice_get, slice_set, Some};
-ghost use Rattle.jobs.specs.declared.entry.Entry.{Entry as SpecEntry};
-ghost use Rattle.jobs.specs.declared.entry.Progress.TheVariants.{Out, Waiting};
+ghost use Rattle.keytable.specs.declared.entry.Entry.{Entry as SpecEntry};
+ghost use Rattle.keytable.specs.declared.entry.Progress.TheVariants.{Out, Waiting};
 ghost use Rattle.jobs.specs.Kept.{AreListed};
 
-use super::entry::Progress;
 use super::known_keys::KnownKeys;
-use super::marking::settle;
 use super::ready::list_users;
+use keytable::{Progress, settle};
 
 /// Sets the progress of a key that was handed out, marks the keys that fail because of it, and lists
 /// those that it makes ready.

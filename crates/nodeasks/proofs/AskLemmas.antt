@@ -1,7 +1,7 @@
 -- Asks by their numbers.
 use Rattle.std.proofs.Common.{◌≡◌, ℕ, List, ap, ◌∙◌, Some, add-one}
 use Rattle.protocol.specs.Lists.{nth}
-use Rattle.protocol.specs.declared.ask.KeptAsk.{KeptAsk}
+use Rattle.events.specs.declared.ask.KeptAsk.{KeptAsk}
 use Rattle.nodeasks.specs.declared.ask_row.AskRow.{AskRow}
 use Rattle.nodeasks.specs.Rows.{HaveRows, IsRowOfAsk}
 use Rattle.nodeasks.proofs.RowLemmas.{kept_at}

@@ -8,9 +8,9 @@ use Rattle.protocol.proofs.Base.{some_is}
 use Rattle.protocol.specs.Lists.{nth}
 use Rattle.protocol.specs.Names.{Digest, FolderName, Ticket, Want}
 use Rattle.protocol.specs.Nodes.{is_base, is_home_of, is_tenure_of, needs, others_use, uses}
-use Rattle.protocol.specs.declared.answer.How.{How}
-use Rattle.protocol.specs.declared.ask.KeptAsk.{KeptAsk}
-use Rattle.protocol.specs.declared.ask.KeptAsk.TheVariants.{Open, Holding, Running, Finished, Over}
+use Rattle.events.specs.declared.answer.How.{How}
+use Rattle.events.specs.declared.ask.KeptAsk.{KeptAsk}
+use Rattle.events.specs.declared.ask.KeptAsk.TheVariants.{Open, Holding, Running, Finished, Over}
 use Rattle.nodeasks.specs.declared.ask_row.AskRow.{AskRow}
 use Rattle.nodeasks.specs.declared.asks.Sought.{Sought}
 use Rattle.nodeasks.specs.declared.asks.Sought.TheVariants as sought

@@ -10,9 +10,9 @@ use Rattle.protocol.specs.Names.{Want, Ticket}
 use Rattle.protocol.specs.Machine.{Grant, News}
 use Rattle.protocol.specs.World.{keeps}
 use Rattle.protocol.specs.Nodes.{recalled_if}
-use Rattle.protocol.specs.declared.answer.How.{How}
-use Rattle.protocol.specs.declared.ask.KeptAsk.{KeptAsk}
-use Rattle.protocol.specs.declared.ask.KeptAsk.TheVariants.{Open, Holding, Running, Finished, Over}
+use Rattle.events.specs.declared.answer.How.{How}
+use Rattle.events.specs.declared.ask.KeptAsk.{KeptAsk}
+use Rattle.events.specs.declared.ask.KeptAsk.TheVariants.{Open, Holding, Running, Finished, Over}
 use Rattle.nodeasks.specs.declared.asks.Sought.{Sought}
 use Rattle.nodeasks.specs.declared.asks.Sought.TheVariants as sought
 use Rattle.nodeasks.specs.declared.ticket_index.Holders.{Holders}

@@ -2,9 +2,9 @@
 use Rattle.std.specs.Prelude.{ℕ, Bool, true, false, List, [], Option, Some, None, is_some}
 use Rattle.protocol.specs.Names.{Ticket}
 use Rattle.protocol.specs.Machine.{Grant, GrantedSlot, News}
-use Rattle.protocol.specs.declared.answer.How.{How}
-use Rattle.protocol.specs.declared.ask.KeptAsk.{KeptAsk}
-use Rattle.protocol.specs.declared.ask.KeptAsk.TheVariants.{Open, Holding, Running, Finished, Over}
+use Rattle.events.specs.declared.answer.How.{How}
+use Rattle.events.specs.declared.ask.KeptAsk.{KeptAsk}
+use Rattle.events.specs.declared.ask.KeptAsk.TheVariants.{Open, Holding, Running, Finished, Over}
 use Rattle.protocol.specs.Nodes as node
 use Rattle.nodeasks.specs.declared.asks.Sought.{Sought}
 use Rattle.nodeasks.specs.declared.asks.Sought.TheVariants as sought

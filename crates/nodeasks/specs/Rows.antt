@@ -3,8 +3,8 @@ use Rattle.std.specs.Prelude.{◌≡◌, ◌==◌, ⊤, ℕ, zero, suc, ◌+◌,
 use Rattle.std.specs.List.{list_any, position}
 use Rattle.std.specs.Bool.{MatchBool}
 use Rattle.protocol.specs.Lists.{nth}
-use Rattle.protocol.specs.declared.ask.KeptAsk.{KeptAsk}
-use Rattle.protocol.specs.declared.ask.KeptAsk.TheVariants.{Open, Holding, Running, Finished, Over}
+use Rattle.events.specs.declared.ask.KeptAsk.{KeptAsk}
+use Rattle.events.specs.declared.ask.KeptAsk.TheVariants.{Open, Holding, Running, Finished, Over}
 use Rattle.nodeasks.specs.declared.ask_row.AskRow.{AskRow}
 
 abbrev pub is_over : KeptAsk → Bool

@@ -3,7 +3,7 @@ use Rattle.std.specs.Prelude.{◌≡◌, ◌==◌, ℕ, Bool, true, false, if◌
 use Rattle.indexmap.specs.IndexMap.{get, spare}
 use Rattle.protocol.specs.Names.{Ticket}
 use Rattle.protocol.specs.World.{keeps}
-use Rattle.protocol.specs.declared.ask.KeptAsk.{KeptAsk}
+use Rattle.events.specs.declared.ask.KeptAsk.{KeptAsk}
 use Rattle.nodeasks.specs.declared.ticket_index.Holders.{Holders}
 use Rattle.nodeasks.specs.declared.ticket_index.Holders.TheVariants.{One, Several}
 use Rattle.nodeasks.specs.declared.ticket_index.TicketIndex.{TicketIndex}

@@ -1,7 +1,7 @@
 //! All asks of a life, also those that aren't kept any more. Only clauses read them: the list takes no memory.
 ghost use Rattle.std.specs.Prelude.{◌≡◌, List, []};
 ghost use Rattle.std.specs.Borrow.{ftrue};
-ghost use Rattle.protocol.specs.declared.ask.KeptAsk.{KeptAsk};
+ghost use Rattle.events.specs.declared.ask.KeptAsk.{KeptAsk};
 ghost use Rattle.nodeasks.specs.Rows.{noted};
 
 use super::ask_row::AskRow;

@@ -1,5 +1,5 @@
 //! A row of the table of asks.
-use protocol::KeptAsk;
+use events::KeptAsk;
 
 /// An ask that is kept, under its place among the asks of its life, counted from 0.
 #[derive(Drop)]

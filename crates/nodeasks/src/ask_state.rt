@@ -1,5 +1,5 @@
+use events::How;
 use farm_base::{Grant, Ticket};
-use protocol::How;
 
 /// How an ask of this life of the node stands.
 #[derive(Drop)]

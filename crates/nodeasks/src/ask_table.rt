@@ -8,8 +8,8 @@ ghost use Rattle.nodeasks.specs.RowProps.{HaveRows-prop};
 use super::all_asks::AllAsks;
 use super::ask_row::AskRow;
 use super::asks::{AskChange, change, is_over};
+use events::KeptAsk;
 use farm_base::Ask;
-use protocol::KeptAsk;
 use std::alloc::{AllocError, Global};
 use std::slice::from_ref;
 

@@ -5,14 +5,14 @@ ghost use Rattle.farm_base.specs.Digests.{digest_eq};
 ghost use Rattle.protocol.specs.Names.{Want};
 ghost use Rattle.protocol.specs.World.{keeps};
 ghost use Rattle.protocol.specs.Nodes.{wants_folder, is_tenure_of, is_home_of, uses, held, running, finished, recallable, is_base, needs};
-ghost use Rattle.protocol.specs.declared.answer.How.{How};
-ghost use Rattle.protocol.specs.declared.ask.KeptAsk.{KeptAsk};
+ghost use Rattle.events.specs.declared.answer.How.{How};
+ghost use Rattle.events.specs.declared.ask.KeptAsk.{KeptAsk};
 ghost use Rattle.nodeasks.specs.Asks.{changed, ends_with, holds, is_open, is_sought, lease_in, recalls, runs, slots_in, told_state, way_out};
 ghost use Rattle.nodeasks.specs.Rows.{is_over};
 
 use super::ask_state::AskState;
+use events::{How, KeptAsk};
 use farm_base::{Copied, Digest, FolderName, Grant, GrantedSlot, Items, News, Ticket, Want};
-use protocol::{How, KeptAsk};
 use std::alloc::{AllocError, Global};
 use std::mem;
 

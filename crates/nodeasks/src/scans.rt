@@ -11,8 +11,8 @@ use super::ask_row::AskRow;
 use super::ask_table::AskTable;
 use super::asks::{Sought, has_base, is_home_of, is_sought, is_tenure_of, needs, uses_some};
 use super::ticket_index::{Holders, TicketIndex};
+use events::KeptAsk;
 use farm_base::{Digest, FolderName, Grant, Mode, Ticket, Want, Wants};
-use protocol::KeptAsk;
 
 /// The first row of an ask with this ticket that stands so.
 fn row_in(rows: &[AskRow], sought: Sought, ticket: Ticket) -> Option<usize>

@@ -4,7 +4,7 @@ use Rattle.protocol.specs.Ledger.{Limits}
 use Rattle.protocol.specs.Machine.{Message}
 use Rattle.protocol.specs.World.{Node}
 use Rattle.protocol.specs.Nodes.{Place, again, all_again}
-use Rattle.protocol.specs.declared.ask.KeptAsk.{KeptAsk}
+use Rattle.events.specs.declared.ask.KeptAsk.{KeptAsk}
 use Rattle.nodeasks.specs.declared.ask_row.AskRow.{AskRow}
 use Rattle.nodeasks.specs.Rows.{HaveRows}
 use Rattle.nodeasks.proofs.RowLemmas.{emptied, opened}

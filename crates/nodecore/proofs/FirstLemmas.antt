@@ -2,8 +2,9 @@
 use Rattle.std.proofs.Common.{◌≡◌, ℕ, ◌+◌, ◌<◌, Bool, cond, List, [], ◌∷◌, refl, ap, subst, sym, ◌∙◌, Option, Some, None, is_some, length, get_or, add-one, arith}
 use Rattle.std.proofs.lemmas.Iterator.Adapters.{position_from-zero}
 use Rattle.std.specs.List.{position, position_from}
-use Rattle.protocol.specs.declared.ask.KeptAsk.{KeptAsk}
-use Rattle.protocol.specs.Nodes.{first, first_of}
+use Rattle.events.specs.declared.ask.KeptAsk.{KeptAsk}
+use Rattle.protocol.specs.Nodes.{HeldGrant, first, first_of}
+use Rattle.protocol.proofs.Base.{some_is}
 
 -- whether the test gives something
 abbrev pub picks : {A : Type 0} → (KeptAsk → Option A) → KeptAsk → Bool
@@ -72,3 +73,7 @@ picked_by test asks (Some i) h = (let f = some_first test asks i h in ap is_some
 -- an ask is picked exactly where there is a first one
 pub picked : {A : Type 0} (test : KeptAsk → Option A) (asks : List KeptAsk) → is_some (position (picks test) asks) ≡ is_some (first test asks 0)
 picked test asks = picked_by test asks (position (picks test) asks) refl
+
+-- a test picks one ask first
+pub first_is : (test : KeptAsk → Option HeldGrant) (asks : List KeptAsk) (a b : ℕ) (h k : HeldGrant) → first test asks 0 ≡ Some (a, h) → first test asks 0 ≡ Some (b, k) → h ≡ k
+first_is test asks a b h k e f = ap (λ (p : ℕ × HeldGrant). p.1) (some_is (a, h) (b, k) (sym e ∙ f))

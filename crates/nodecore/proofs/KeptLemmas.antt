@@ -2,20 +2,20 @@
 use Rattle.std.proofs.Common.{◌≡◌, ◌⊎◌, ℕ, ◌<◌, ◌==◌, Bool, true, false, not, ◌&&◌, [], inl, inr, List, length, get_or, slice_get, refl, sym, ap, ◌∙◌, Option, None, Some}
 use Rattle.std.proofs.lemmas.Option.{slice_get-get_or, get_or_from_slice_get}
 use Rattle.farm_base.specs.Kinds.{is_tenure}
-use Rattle.protocol.specs.declared.answer.How.TheVariants as how
-use Rattle.protocol.specs.declared.answer.NodeNote.TheVariants as note
+use Rattle.events.specs.declared.answer.How.TheVariants as how
+use Rattle.events.specs.declared.answer.NodeNote.TheVariants as note
 use Rattle.nodecore.proofs.FirstLemmas.{FirstAt}
 use Rattle.nodeasks.proofs.RowLemmas.{kept_at}
 use Rattle.nodeasks.specs.declared.ask_row.AskRow.{AskRow}
 use Rattle.nodeasks.specs.Rows.{HaveRows}
 use Rattle.protocol.proofs.Base.{some_is}
-use Rattle.protocol.specs.declared.answer.How.{How}
+use Rattle.events.specs.declared.answer.How.{How}
 use Rattle.protocol.proofs.Moving.{held_is, running_is, either_is}
 use Rattle.protocol.specs.Names.{Want, Ticket, Ask, Life}
 use Rattle.protocol.specs.Machine.{Grant, Why}
 use Rattle.protocol.specs.World.{Node, keeps}
-use Rattle.protocol.specs.declared.ask.KeptAsk.{KeptAsk}
-use Rattle.protocol.specs.declared.ask.KeptAsk.TheVariants.{Open, Holding, Running, Finished, Over}
+use Rattle.events.specs.declared.ask.KeptAsk.{KeptAsk}
+use Rattle.events.specs.declared.ask.KeptAsk.TheVariants.{Open, Holding, Running, Finished, Over}
 use Rattle.protocol.specs.Ledger.{Limits}
 use Rattle.std.proofs.Common.{Result, Ok, Err, IfOk}
 use Rattle.std.specs.declared.alloc.AllocError.{AllocError}

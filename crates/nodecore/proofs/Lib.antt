@@ -3,6 +3,4 @@ pub mod FetchLemmas
 pub mod NodeLemmas
 pub mod FirstLemmas
 pub mod KeptLemmas
-pub mod MapLemmas
 pub mod SendLemmas
-pub mod StoredLemmas

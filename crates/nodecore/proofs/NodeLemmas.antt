@@ -1,23 +1,21 @@
 -- The results of calls.
-use Rattle.std.proofs.Common.{◌≡◌, ℕ, ◌+◌, ◌<◌, Bool, true, false, not, nat_lt, List, [], ◌∷◌, length, refl, ap, sym, ◌∙◌, add-one, arith, cond, is_some, Option, Some, None, Ok, Err}
-use mathlib.Core.Path.{fun_ext}
+use Rattle.std.proofs.Common.{◌≡◌, ℕ, ◌+◌, ◌<◌, Bool, true, false, not, nat_lt, List, [], ◌∷◌, length, refl, ap, sym, ◌∙◌, add-one, arith, is_some, Option, Some, None, Ok, Err}
 use Rattle.std.specs.List.{list_any}
-use Rattle.indexmap.specs.IndexMap.{IndexMap, get}
-use Rattle.farm_base.specs.Digests.{digest_eq}
+use Rattle.std.proofs.lemmas.List.Sums.{AllPass-from_list_all}
 use Rattle.farm_base.specs.Contents.{content_digest}
 use Rattle.std.proofs.Math.ListN.{set}
 use Rattle.std.proofs.lemmas.Grind.{common_steps}
-use Rattle.std.proofs.lemmas.Cmp.{nat_list_eq_equiv}
 use Rattle.protocol.specs.Lists.{set_nth}
 use Rattle.protocol.specs.Names.{Ticket, Digest, slots_eq}
-use Rattle.protocol.specs.Machine.{Message, News, commit, slots_of, written}
+use Rattle.protocol.specs.Machine.{GrantedSlot, Message, News, commit, slots_of, written}
 use Rattle.protocol.specs.World.{Node, keep}
-use Rattle.protocol.specs.declared.ask.KeptAsk.{KeptAsk}
-use Rattle.protocol.specs.declared.ask.KeptAsk.TheVariants.{Running, Finished}
+use Rattle.events.specs.declared.ask.KeptAsk.{KeptAsk}
+use Rattle.events.specs.declared.ask.KeptAsk.TheVariants.{Running, Finished}
 use Rattle.protocol.specs.Nodes.{NodeAnswer, NodeWork, Place, HeldGrant, guard, first, held, held_or_running, begun, beginning, all_stored, becomes, aborted, aborting, in_use, gives_up, brought, is_base, running, Left, stored, leaving, leaves, news_of, finishing, finished_with}
-use Rattle.protocol.specs.declared.answer.NodeNote.TheVariants as note
-use Rattle.protocol.specs.declared.answer.NodeRefusal.{NodeRefusal}
-use Rattle.protocol.specs.declared.answer.NodeRefusal.TheVariants as refusal
+use Rattle.events.specs.declared.answer.NodeNote.TheVariants as note
+use Rattle.events.specs.declared.answer.NodeRefusal.{NodeRefusal}
+use Rattle.events.specs.declared.answer.NodeRefusal.TheVariants as refusal
+use Rattle.nodecore.specs.Shown.{content_at, HasBase, HasBases}
 
 -- a test that refuses nothing
 pub passes : {b : Bool} (e : NodeRefusal) (r : NodeAnswer) → b ≡ false → guard b e r ≡ r
@@ -50,6 +48,15 @@ pub begins : (t : Ticket) (x y : Node) (a : ℕ) (h : HeldGrant) (sends : List M
     → begun t x ≡ Ok (record { node = y; sends = sends; note = note.Begun t })
 begins t x y a h sends p q r m s = passes _ _ p ∙ ap (beginning t x) q ∙ rw r (λ j. Ok (record { node = s j; sends = m j; note = note.Begun t }))
 
+-- the content of each base is stored
+has_base : (x y : Node) → x.store ≡ y.store → (u : GrantedSlot) → is_some (x.store u.digest) ≡ true → HasBase y u
+has_base x y e u h =
+    let here : is_some (y.store u.digest) ≡ true = ap (λ (s : Digest → Option (List ℕ)). is_some (s u.digest)) (sym e) ∙ h in
+    record { stored = here; held = λ k. ap (λ (o : Option Digest). is_some (content_at y o)) k ∙ here }
+
+pub has_bases : (x y : Node) → x.store ≡ y.store → (slots : List GrantedSlot) → all_stored x slots ≡ true → HasBases y slots
+has_bases x y e slots h k d lt = has_base x y e _ (AllPass-from_list_all (λ (u : GrantedSlot). is_some (x.store u.digest)) slots h k d lt)
+
 -- abort
 
 pub aborts_not : (at : Place) (t : Ticket) (x : Node) → x.spent ≡ false → first (held_or_running t) x.asks 0 ≡ None → aborted at t x ≡ Err refusal.NoSuchTicket
@@ -65,14 +72,6 @@ aborts at t x w a h p q r e s =
     passes _ _ p ∙ ap (aborting at x) q ∙ passes _ _ r
     ∙ ap (λ (u : Ticket). Ok (gives_up at a u (note.Aborted u) x)) e
     ∙ ap (λ (v : NodeWork). Ok v) s
-
-pub digest_eq-sym : (a b : Digest) → digest_eq a b ≡ digest_eq b a
-digest_eq-sym a b = nat_list_eq_equiv.symm a.0 b.0
-
--- the store with one content more
-pub keep_shown : {S : Type 0} (m n : IndexMap Digest (List ℕ) S) (d : Digest) (v : List ℕ) → ((q : Digest) → get digest_eq n q ≡ cond (digest_eq d q) (Some v) (get digest_eq m q))
-    → (λ e. get digest_eq n e) ≡ keep d v (λ e. get digest_eq m e)
-keep_shown m n d v h = fun_ext (λ e. h e ∙ ap (λ (b : Bool). cond b (Some v) (get digest_eq m e)) (digest_eq-sym d e))
 
 -- a content that is wanted and isn't stored
 pub brings : (c : List ℕ) (x y : Node) (d : Digest) → d ≡ content_digest c → is_some (x.store d) ≡ false → list_any (is_base d) x.asks ≡ true → record x { store = keep d c x.store } ≡ y

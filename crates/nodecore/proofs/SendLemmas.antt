@@ -12,8 +12,8 @@ use Rattle.protocol.specs.Names.{NodeId, Ticket, Ask}
 use Rattle.protocol.specs.Ledger.{Limits}
 use Rattle.protocol.specs.Machine.{Message, Grant, GrantedSlot, Confirmed, Why}
 use Rattle.protocol.specs.World.{Node, keeps}
-use Rattle.protocol.specs.declared.ask.KeptAsk.{KeptAsk}
-use Rattle.protocol.specs.declared.ask.KeptAsk.TheVariants.{Open, Holding, Running, Finished, Over}
+use Rattle.events.specs.declared.ask.KeptAsk.{KeptAsk}
+use Rattle.events.specs.declared.ask.KeptAsk.TheVariants.{Open, Holding, Running, Finished, Over}
 use Rattle.protocol.specs.Nodes.{NodeWork, Place, Sent, nodes_from, fetches, fetches_of, is_missing, is_stored, is_base, gives_back, granted, learned, dropped, denied, recalled, first, finished, recallable, fetched, heard}
 use Rattle.farm_base.specs.declared.message.ToNode.{ToNode}
 use Rattle.farm_base.specs.declared.message.ToNode.TheVariants.{FromCoord as Told, Fetch, Blob}

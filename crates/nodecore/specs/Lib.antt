@@ -1,3 +1,2 @@
 pub mod HeldAsks
 pub mod Shown
-pub mod Stored

@@ -3,7 +3,7 @@ use Rattle.std.specs.Prelude.{◌≡◌, ◌==◌, ℕ, Bool, true, false, if◌
 use Rattle.std.specs.declared.alloc.AllocError.{AllocError}
 use Rattle.protocol.specs.World.{Node}
 use Rattle.protocol.specs.Names.{Digest, Ticket}
-use Rattle.protocol.specs.Machine.{Grant, GrantedSlot, Confirmed}
+use Rattle.protocol.specs.Machine.{Grant, GrantedSlot}
 use Rattle.farm_base.specs.declared.message.Version.{Version}
 use Rattle.protocol.specs.Nodes.{NodeWork, NodeAnswer, Place, HeldGrant, first, held, all_stored, nothing, received}
 use Rattle.farm_base.specs.Contents.{content_digest}
@@ -13,20 +13,12 @@ use Rattle.farm_base.specs.declared.message.ToNode.{ToNode}
 use Rattle.farm_base.specs.declared.message.ToNode.TheVariants.{FromCoord, Fetch, Blob}
 use Rattle.farm_base.specs.declared.message.FromCoord as from_coord
 use Rattle.farm_base.specs.declared.message.FromCoord.TheVariants as coord
-use Rattle.protocol.specs.declared.answer.NodeRefusal.{NodeRefusal}
-use Rattle.protocol.specs.declared.answer.NodeRefusal.TheVariants.{OutOfMemory}
+use Rattle.events.specs.declared.answer.NodeRefusal.{NodeRefusal}
+use Rattle.events.specs.declared.answer.NodeRefusal.TheVariants.{OutOfMemory}
 use Rattle.nodecore.specs.declared.message.NodeDone.{NodeDone}
 use Rattle.nodecore.specs.declared.node_core.NodeCore.{NodeCore}
 use Rattle.nodeasks.specs.Rows.{is_lost}
-pub use Rattle.nodecore.specs.Stored.{store_in, known_in, learn_all}
-
--- the base of a granted slot
-abbrev pub base_of : GrantedSlot → Version × Digest
-base_of u = (record { slot = u.slot; number = u.base }, u.digest)
-
--- a version that a confirmation names
-abbrev pub version_of : Confirmed → Version × Digest
-version_of v = (record { slot = v.slot; number = v.number }, v.digest)
+use Rattle.nodecontents.specs.Stored.{base_of, store_in, known_in}
 
 -- the protocol's node
 abbrev pub shown : NodeCore → Node

@@ -9,9 +9,9 @@ ghost use Rattle.nodecore.specs.Shown.{forgets, place, shown, Answers};
 use super::message::NodeDone;
 use super::node_core::NodeCore;
 use super::receive::silent;
+use events::{NodeNote, NodeRefusal};
 use farm_base::{Digest, empty_digest};
 use nodeasks::any_needs;
-use protocol::{NodeNote, NodeRefusal};
 use std::alloc::Global;
 
 impl NodeCore {

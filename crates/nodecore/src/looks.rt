@@ -5,9 +5,9 @@ ghost use Rattle.protocol.specs.Nodes.{begun, first, held, running};
 ghost use Rattle.nodeasks.specs.Asks.{way_out_unless};
 
 use super::node_core::NodeCore;
+use events::{How, NodeRefusal};
 use farm_base::{Ask, Grant, Ticket};
 use nodeasks::{Sought, lease, row_of, way_out};
-use protocol::{How, NodeRefusal};
 
 impl NodeCore {
     ghost use Rattle.nodecore.specs.Shown.{forgets, shown, MayBegin};

@@ -1,5 +1,5 @@
+use events::NodeNote;
 use farm_base::{Items, Message};
-use protocol::NodeNote;
 
 /// What a call did, and what the node sends.
 #[derive(Drop)]

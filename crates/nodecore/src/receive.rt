@@ -1,22 +1,22 @@
 ghost use Rattle.std.specs.Prelude.{◌≡◌, ◌+◌, ◌<◌, [], List, Bool, false, IfOk, Some, slice_get, vec_len};
 ghost use Rattle.protocol.specs.Names.{Want};
 ghost use Rattle.protocol.specs.Farm.{farm_limits};
-ghost use Rattle.protocol.specs.declared.ask.KeptAsk.{KeptAsk};
+ghost use Rattle.events.specs.declared.ask.KeptAsk.{KeptAsk};
 ghost use Rattle.nodeasks.specs.declared.ask_row.AskRow.{AskRow};
 ghost use Rattle.protocol.specs.Lists.{nth};
 ghost use Rattle.protocol.specs.Nodes.{heard, unless_spent, brought, denied, dropped, fetched, finished, gives_back, granted, takes, learned, first, recallable, recalled};
 ghost use Rattle.farm_base.specs.Contents.{content_digest};
 ghost use Rattle.nodecore.specs.Shown.{forgets, shown, place, work_of, message_work, hearing, Does, Answers};
 
-use super::contents::{bases, confirmed, learn};
 use super::message::NodeDone;
 use super::node_core::NodeCore;
+use events::{How, NodeNote, NodeRefusal};
 use farm_base::{
     Ask, Confirmed, Content, Copied, Digest, FromCoord, Grant, Items, Message, NodeId, Request,
     Ticket, ToNode, Why,
 };
 use nodeasks::{AskChange, Sought, any_base, is_open, keeps, row_of};
-use protocol::{How, NodeNote, NodeRefusal};
+use nodecontents::{bases, confirmed, learn};
 use std::alloc::{AllocError, Global};
 
 /// What sends nothing.

@@ -7,8 +7,8 @@ ghost use Rattle.nodecore.specs.Shown.{place, shown, Answers};
 
 use super::message::NodeDone;
 use super::node_core::NodeCore;
+use events::{KeptAsk, NodeNote, NodeRefusal};
 use farm_base::{Ask, Copied, Items, Message, Request};
-use protocol::{KeptAsk, NodeNote, NodeRefusal};
 use std::alloc::{AllocError, Global};
 
 impl NodeCore {

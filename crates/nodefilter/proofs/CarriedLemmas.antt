@@ -3,8 +3,8 @@ use Rattle.std.proofs.Common.{◌≡◌, Bool, true, false, not, inl, inr, Some,
 use Rattle.std.specs.Result.{is_ok}
 use Rattle.nodecore.specs.declared.message.NodeDone.{NodeDone}
 use Rattle.nodecore.specs.Shown.{Answers}
-use Rattle.protocol.specs.declared.answer.NodeRefusal.{NodeRefusal}
-use Rattle.protocol.specs.declared.answer.NodeRefusal.TheVariants as refusal
+use Rattle.events.specs.declared.answer.NodeRefusal.{NodeRefusal}
+use Rattle.events.specs.declared.answer.NodeRefusal.TheVariants as refusal
 use Rattle.protocol.specs.Nodes.{NodeAnswer}
 use Rattle.protocol.specs.World.{Node}
 use Rattle.nodelines.specs.declared.order.Call.{Call}

@@ -10,11 +10,11 @@ use Rattle.farm_base.specs.Digests.{digest_eq}
 use Rattle.lists.proofs.Places.{Contains-head, Contains-tail}
 use Rattle.farm_base.proofs.CompareLaws.{digest_exact, digest_eq-itself}
 use Rattle.farm_base.specs.declared.message.Why.{Why}
-use Rattle.protocol.specs.declared.answer.NodeNote.TheVariants.{OldLife, Forgot}
-use Rattle.protocol.specs.declared.answer.NodeRefusal.{NodeRefusal}
-use Rattle.protocol.specs.declared.answer.NodeRefusal.TheVariants.{NotHomeHere, WrongNews, TenureHere, TenureInUse, LivesSpent, AsksSpent, NoSuchContent, Needed}
-use Rattle.protocol.specs.declared.ask.KeptAsk.{KeptAsk}
-use Rattle.protocol.specs.declared.ask.KeptAsk.TheVariants.{Open, Holding, Running, Finished, Over}
+use Rattle.events.specs.declared.answer.NodeNote.TheVariants.{OldLife, Forgot}
+use Rattle.events.specs.declared.answer.NodeRefusal.{NodeRefusal}
+use Rattle.events.specs.declared.answer.NodeRefusal.TheVariants.{NotHomeHere, WrongNews, TenureHere, TenureInUse, LivesSpent, AsksSpent, NoSuchContent, Needed}
+use Rattle.events.specs.declared.ask.KeptAsk.{KeptAsk}
+use Rattle.events.specs.declared.ask.KeptAsk.TheVariants.{Open, Holding, Running, Finished, Over}
 use Rattle.farm_base.specs.declared.folder.Mode.TheVariants.{Shared}
 use Rattle.protocol.specs.Farm.{farm_limits}
 use Rattle.protocol.specs.Ledger.{Limits}

@@ -16,9 +16,9 @@ use Rattle.farm_base.specs.declared.number.Life.{Life}
 use Rattle.farm_base.specs.declared.number.NodeId.{NodeId}
 use Rattle.nodecore.specs.declared.message.NodeDone.{NodeDone}
 use Rattle.nodecore.specs.Shown.{Answers, hearing, work_of}
-use Rattle.nodecore.specs.Stored.{kept_node}
-use Rattle.protocol.specs.declared.answer.NodeRefusal.{NodeRefusal}
-use Rattle.protocol.specs.declared.answer.NodeRefusal.TheVariants as refusal
+use Rattle.nodecontents.specs.Stored.{kept_node}
+use Rattle.events.specs.declared.answer.NodeRefusal.{NodeRefusal}
+use Rattle.events.specs.declared.answer.NodeRefusal.TheVariants as refusal
 use Rattle.protocol.specs.Farm.{farm_limits}
 use Rattle.protocol.specs.Lawful.{IsNumber}
 use Rattle.protocol.specs.Lists.{In, put}

@@ -6,7 +6,7 @@ use Rattle.std.proofs.lemmas.List.Elements.{All-head, All-tail}
 use Rattle.farm_base.proofs.CompareLaws.{digest_exact}
 use Rattle.farm_base.specs.Contents.{content_digest}
 use Rattle.farm_base.specs.Digests.{digest_eq}
-use Rattle.nodecore.specs.Stored.{store_one, store_each}
+use Rattle.nodecontents.specs.Stored.{store_one, store_each}
 use Rattle.protocol.specs.Names.{Digest}
 use Rattle.protocol.specs.World.{keep, first_node}
 

@@ -7,7 +7,7 @@ use Rattle.farm_base.specs.declared.message.ToNode.TheVariants as to_node
 use Rattle.nodecore.specs.declared.message.NodeDone.{NodeDone}
 use Rattle.nodeasks.specs.Rows.{endings_after}
 use Rattle.nodecore.specs.Shown.{Answers, hearing}
-use Rattle.protocol.specs.declared.answer.NodeRefusal.{NodeRefusal}
+use Rattle.events.specs.declared.answer.NodeRefusal.{NodeRefusal}
 use Rattle.protocol.specs.Farm.{farm_limits}
 use Rattle.protocol.specs.Names.{Digest, NodeId}
 use Rattle.protocol.specs.Nodes.{Place, NodeAnswer, unless_spent}

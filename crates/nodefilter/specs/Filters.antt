@@ -6,7 +6,7 @@ use Rattle.farm_base.specs.declared.number.Ask.{Ask}
 use Rattle.farm_base.specs.declared.number.Ticket.{Ticket}
 use Rattle.nodecore.specs.declared.message.NodeDone.{NodeDone}
 use Rattle.nodeasks.specs.Asks.{told_unless}
-use Rattle.protocol.specs.declared.answer.NodeRefusal.{NodeRefusal}
+use Rattle.events.specs.declared.answer.NodeRefusal.{NodeRefusal}
 use Rattle.protocol.specs.Lists.{nth}
 use Rattle.services.specs.declared.lost.Lost.{Lost}
 use Rattle.services.specs.declared.settled.Settled.{Settled}

@@ -12,7 +12,7 @@ use Rattle.farm_base.specs.declared.number.NodeId.{NodeId}
 use Rattle.protocol.specs.Farm.{farm_limits}
 use Rattle.protocol.specs.Lawful.{IsNumber}
 use Rattle.protocol.specs.Lists.{In, put}
-use Rattle.protocol.specs.declared.answer.NodeRefusal.{NodeRefusal}
+use Rattle.events.specs.declared.answer.NodeRefusal.{NodeRefusal}
 use Rattle.protocol.specs.Processes.{Processes, Runs}
 use Rattle.protocol.specs.World.{Node}
 use Rattle.services.specs.Says.{Says_all}

@@ -4,7 +4,7 @@ use Rattle.std.specs.String.{string_bytes}
 use Rattle.nodecore.specs.declared.message.NodeDone.{NodeDone}
 use Rattle.nodeasks.specs.Rows.{none_lost}
 use Rattle.nodecore.specs.Shown.{work_of}
-use Rattle.nodecore.specs.Stored.{kept_node}
+use Rattle.nodecontents.specs.Stored.{kept_node}
 use Rattle.protocol.specs.Farm.{farm_limits}
 use Rattle.protocol.specs.Nodes.{Place, restarted, may_restart}
 use Rattle.nodelines.specs.declared.about.About.TheVariants as about

@@ -9,11 +9,11 @@ ghost use Rattle.nodefilter.specs.States.{seen};
 ghost use Rattle.nodestore.specs.Stores.{StayKept, AllKept};
 
 use super::filter::NodeFilter;
+use events::NodeRefusal;
 use farm_base::{Copied, Digest, FromCoord, Items, Left, NodeId, ToNode};
 use nodecore::{NodeCore, NodeDone};
 use nodelines::{About, Call, Carried};
 use nodestore::{Store, StoreFault};
-use protocol::NodeRefusal;
 use std::alloc::{AllocError, Global};
 
 /// Makes the call.

@@ -9,11 +9,11 @@ use Rattle.farmwire.specs.Words.{spaced}
 use Rattle.nodeasks.specs.declared.ask_state.AskState.{AskState}
 use Rattle.nodeasks.specs.declared.ask_state.AskState.TheVariants as state
 use Rattle.nodecore.specs.declared.message.NodeDone.{NodeDone}
-use Rattle.protocol.specs.declared.answer.How.{How}
-use Rattle.protocol.specs.declared.answer.How.TheVariants as how
-use Rattle.protocol.specs.declared.answer.NodeNote.{NodeNote}
-use Rattle.protocol.specs.declared.answer.NodeNote.TheVariants as note
-use Rattle.protocol.specs.declared.answer.NodeRefusal.{NodeRefusal}
+use Rattle.events.specs.declared.answer.How.{How}
+use Rattle.events.specs.declared.answer.How.TheVariants as how
+use Rattle.events.specs.declared.answer.NodeNote.{NodeNote}
+use Rattle.events.specs.declared.answer.NodeNote.TheVariants as note
+use Rattle.events.specs.declared.answer.NodeRefusal.{NodeRefusal}
 use Rattle.schedule.specs.Notes.{node_note_text}
 use Rattle.schedule.specs.RefusalNames.{node_refusal_text}
 use Rattle.services.specs.Outside.{Sends}

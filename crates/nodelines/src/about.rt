@@ -1,6 +1,6 @@
+use events::NodeRefusal;
 use farm_base::{Ask, Confirmed, Items};
 use nodecore::NodeDone;
-use protocol::NodeRefusal;
 
 /// What a message of the coordinator's is about, as far as a note doesn't say it.
 #[derive(Drop)]

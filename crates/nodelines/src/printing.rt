@@ -7,11 +7,11 @@ ghost use Rattle.farmwire.specs.Words.{spaced};
 ghost use Rattle.nodelines.specs.Written.{noted, versions_text, denied_ask, told_note, refused_line, IsDone, IsWritten, content_line, over_text, state_text};
 
 use super::about::{About, Carried};
+use events::{EventNote, EventRefusal, How, NodeNote, NodeRefusal};
 use farm_base::{Ask, Digest, Grant, Key, Ticket};
 use farmwire::item::push_items;
 use farmwire::{FarmKey, push_grant, push_number, push_word};
 use nodecore::{AskState, NodeDone};
-use protocol::{EventNote, EventRefusal, How, NodeNote, NodeRefusal};
 use schedule::{print_note, refusal_name};
 use services::push_messages;
 use std::alloc::{AllocError, Global};

@@ -6,7 +6,7 @@ use Rattle.protocol.specs.Lists.{In}
 use Rattle.protocol.specs.Machine.{Parked}
 use Rattle.farm_base.specs.declared.message.Request.TheVariants.{Acquire}
 use Rattle.farm_base.specs.declared.message.FromCoord.TheVariants as told
-use Rattle.protocol.specs.declared.answer.CoordNote.TheVariants as note
+use Rattle.events.specs.declared.answer.CoordNote.TheVariants as note
 use Rattle.protocol.specs.Ledger.{Limits, Ledger, Work, Give, decision, decided, acquiring, answering, gives, grant_of, lease_for, is_parked, newer_life, handled}
 use Rattle.protocol.specs.Follows.{MayBeGranted, NoneReady, OnlyItself, FittingAskIsGranted}
 use Rattle.protocol.proofs.Base.{in_right, from_any, node_is, life_is, ask_is}

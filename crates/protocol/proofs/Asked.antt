@@ -10,7 +10,7 @@ use Rattle.protocol.specs.Machine.{Grant, Parked, Machine, Live, cleared}
 use Rattle.farm_base.specs.declared.message.Request.TheVariants.{Acquire}
 use Rattle.farm_base.specs.declared.message.Why.{Why}
 use Rattle.farm_base.specs.declared.message.Why.TheVariants.{InstancesSpent, TicketsSpent}
-use Rattle.protocol.specs.declared.answer.CoordNote.TheVariants as note
+use Rattle.events.specs.declared.answer.CoordNote.TheVariants as note
 use Rattle.protocol.specs.Ledger.{Limits, Ledger, Lease, Work, begin_work, has_slot, some_lease, Give, Deny, Wait, elsewhere, all_taken, busy, is_free, is_leased, decision, is_of, lease_of, is_parked, is_older, is_home, newer_life, decided, acquiring, handled, grant_of}
 use Rattle.protocol.specs.World.{start}
 use Rattle.protocol.specs.Replay.{Farm, run, opening}

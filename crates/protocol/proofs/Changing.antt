@@ -9,9 +9,9 @@ use Rattle.protocol.specs.Names.{Slot, slots_eq, leased_wants, NodeId, Life, Tic
 use Rattle.protocol.specs.Machine.{ToCoord, Parked, News, LineVersion, version_of, digest_for, slots_of}
 use Rattle.farm_base.specs.declared.message.Request.{Request}
 use Rattle.farm_base.specs.declared.message.Request.TheVariants.{Hello, Acquire, Commit, Release}
-use Rattle.protocol.specs.declared.answer.CoordRefusal.{CoordRefusal}
-use Rattle.protocol.specs.declared.answer.CoordRefusal.TheVariants as coord
-use Rattle.protocol.specs.declared.answer.CoordNote.TheVariants as note
+use Rattle.events.specs.declared.answer.CoordRefusal.{CoordRefusal}
+use Rattle.events.specs.declared.answer.CoordRefusal.TheVariants as coord
+use Rattle.events.specs.declared.answer.CoordNote.TheVariants as note
 use Rattle.protocol.specs.Ledger.{Limits, Ledger, Lease, Saved, saves, Work, begin_work, says, notes, is_saved, is_leased, is_free, all_taken, busy, Decision, Give, Deny, Wait, elsewhere, decision, lease_for, raised, gives, denies, carried_out, tried, try_all, waiting, parks, retried, holds_wanted, recall, recalls, decided, acquiring, lease_of, is_parked, has_ticket, without, ends, lease_under, may_commit, is_its, writable_slots, on_all, committing, confirms, commits, may_release, released, answering, handled, withdraws, withdrawing, withdrawn, is_at, is_home, goes, retired, prunes, pruned, is_awaited, nudges, nudge_all, nudged}
 use Rattle.protocol.specs.Ledger as ledger
 use Rattle.protocol.proofs.Base.{true_false, in_left, in_right, in_append, in_one, in_filter, from_filter, slot_eq_same, eqb_same, put_same}

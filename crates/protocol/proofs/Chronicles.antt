@@ -8,23 +8,23 @@ use Rattle.farm_base.specs.declared.message.ToNode.TheVariants as to_node
 use Rattle.protocol.specs.Lists.{In, IsFrontOf, nth}
 use Rattle.protocol.specs.Names.{Life, Mode, Shared, IsInstance, is_private, is_shared, only_slot, wants_shared, leased_wants, tenure_wants, FolderName, Slot, NodeId, Ticket, Digest, Want}
 use Rattle.protocol.specs.Machine.{acquire, GrantedSlot, AnswersAsk, want_of, Grant, Granted, Told, Has, ticket_of, LineVersion, Ending, Withdrawn, Died, Message, Said, ToCoord, Machine, Live, line}
-use Rattle.protocol.specs.declared.answer.CoordNote.{CoordNote}
-use Rattle.protocol.specs.declared.answer.CoordNote.TheVariants as coord
-use Rattle.protocol.specs.declared.answer.CoordRefusal.{CoordRefusal}
-use Rattle.protocol.specs.declared.answer.EventNote.{EventNote}
-use Rattle.protocol.specs.declared.answer.EventNote.TheVariants as note
-use Rattle.protocol.specs.declared.answer.EventRefusal.{EventRefusal}
-use Rattle.protocol.specs.declared.answer.Outcome.{Outcome}
-use Rattle.protocol.specs.declared.answer.Kept.{Kept}
-use Rattle.protocol.specs.declared.answer.Kept.TheVariants.{Old, New}
+use Rattle.events.specs.declared.answer.CoordNote.{CoordNote}
+use Rattle.events.specs.declared.answer.CoordNote.TheVariants as coord
+use Rattle.events.specs.declared.answer.CoordRefusal.{CoordRefusal}
+use Rattle.events.specs.declared.answer.EventNote.{EventNote}
+use Rattle.events.specs.declared.answer.EventNote.TheVariants as note
+use Rattle.events.specs.declared.answer.EventRefusal.{EventRefusal}
+use Rattle.events.specs.declared.answer.Outcome.{Outcome}
+use Rattle.events.specs.declared.answer.Kept.{Kept}
+use Rattle.events.specs.declared.answer.Kept.TheVariants.{Old, New}
 use Rattle.protocol.specs.Ledger.{Limits, Ledger, Lease, Saved, saves, reads, Work, is_saved, begin_work, handled, withdrawn, retired, pruned, nudged}
 use Rattle.protocol.specs.World.{Running, Node, World, Move, Node_moves, Machine_moves, Machine_says, Fails, Recovers, Moves, Still, Then, start}
 use Rattle.protocol.specs.Safe.{IsWithdrawn, InUse, HoldsContent, Rising}
 use Rattle.protocol.specs.Replay.{Event, Deliver, Begin, Withdraw, Retire, RestartCoordinator, Farm, settled, coordinated, delivered, step, run, opening, Tenure, Finish, Abort, Resend, Nudge, Prune, RestartNode, Forge, Forget, FailSave, Turn, refused, is_node, at_node, restarts, told_to}
 use Rattle.protocol.specs.Replay as replay
 use Rattle.protocol.specs.Nodes.{NodeAnswer, may_restart}
-use Rattle.protocol.specs.declared.answer.CoordRefusal.TheVariants as coord_refusal
-use Rattle.protocol.specs.declared.answer.EventRefusal.TheVariants as refusal
+use Rattle.events.specs.declared.answer.CoordRefusal.TheVariants as coord_refusal
+use Rattle.events.specs.declared.answer.EventRefusal.TheVariants as refusal
 use Rattle.protocol.proofs.Saying as saying
 use Rattle.protocol.specs.Follows.{lease_from, Agrees, SavedAgrees, IsFarm, Shows}
 use Rattle.protocol.specs.Meaning.{message_adds, Finds, recorded, adds, Carried, Answered, Means, Of_older_life}

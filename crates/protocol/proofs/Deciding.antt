@@ -10,10 +10,10 @@ use Rattle.protocol.specs.Names.{Slot, slots_eq, NodeId, Life, Ticket, Digest}
 use Rattle.protocol.specs.Machine.{Grant, Granted, ticket_of, News, LineVersion, Message, Parked, Machine, Live, slots_of, written}
 use Rattle.farm_base.specs.declared.message.Request.{Request}
 use Rattle.farm_base.specs.declared.message.Request.TheVariants.{Commit, Release}
-use Rattle.protocol.specs.declared.answer.CoordNote.{CoordNote}
-use Rattle.protocol.specs.declared.answer.CoordNote.TheVariants as note
-use Rattle.protocol.specs.declared.answer.CoordRefusal.{CoordRefusal}
-use Rattle.protocol.specs.declared.answer.CoordRefusal.TheVariants as refusal
+use Rattle.events.specs.declared.answer.CoordNote.{CoordNote}
+use Rattle.events.specs.declared.answer.CoordNote.TheVariants as note
+use Rattle.events.specs.declared.answer.CoordRefusal.{CoordRefusal}
+use Rattle.events.specs.declared.answer.CoordRefusal.TheVariants as refusal
 use Rattle.protocol.specs.Replay.{Event, Withdraw, Prune, Retire}
 use Rattle.protocol.specs.Ledger.{Limits, Ledger, Lease, Work, begin_work, has_slot, is_leased, writable_slots, Decision, Give, Deny, Wait, decision, gives, carried_out, tried, try_all, retried, has_ticket, lease_under, may_commit, may_release, committing, released, answering, is_older, sees, is_home, newer_life, handled, withdrawing, withdrawn, is_at, retired, pruned, notes, withdraws, prunes}
 use Rattle.protocol.specs.Follows.{lease_from, Agrees, CommitIsTaken, ReleaseIsTaken}

@@ -7,16 +7,16 @@ use Rattle.protocol.specs.Lists.{nth, is_nil}
 use Rattle.protocol.specs.Names.{Slot, NodeId, Digest}
 use Rattle.protocol.specs.Machine.{Message}
 use Rattle.farm_base.specs.declared.message.Message.TheVariants as to
-use Rattle.protocol.specs.declared.answer.CoordNote.TheVariants as note
-use Rattle.protocol.specs.declared.answer.CoordRefusal.{CoordRefusal}
-use Rattle.protocol.specs.declared.answer.CoordRefusal.TheVariants as coord
-use Rattle.protocol.specs.declared.answer.NodeRefusal.TheVariants as node_refusal
+use Rattle.events.specs.declared.answer.CoordNote.TheVariants as note
+use Rattle.events.specs.declared.answer.CoordRefusal.{CoordRefusal}
+use Rattle.events.specs.declared.answer.CoordRefusal.TheVariants as coord
+use Rattle.events.specs.declared.answer.NodeRefusal.TheVariants as node_refusal
 use Rattle.protocol.specs.World.{Node}
 use Rattle.protocol.proofs.Base.{put_same}
-use Rattle.protocol.specs.declared.answer.EventRefusal.{EventRefusal}
-use Rattle.protocol.specs.declared.answer.EventRefusal.TheVariants as refusal
-use Rattle.protocol.specs.declared.answer.Kept.{Kept}
-use Rattle.protocol.specs.declared.answer.Kept.TheVariants.{Old, New}
+use Rattle.events.specs.declared.answer.EventRefusal.{EventRefusal}
+use Rattle.events.specs.declared.answer.EventRefusal.TheVariants as refusal
+use Rattle.events.specs.declared.answer.Kept.{Kept}
+use Rattle.events.specs.declared.answer.Kept.TheVariants.{Old, New}
 use Rattle.protocol.specs.Ledger.{Limits, Lease, Work, begin_work, notes, prunes, saves, handled, withdrawing, withdrawn, lease_under, retired, pruned, nudged, is_at, is_home, is_leased}
 use Rattle.protocol.specs.Nodes.{NodeAnswer, may_restart}
 use Rattle.protocol.specs.Replay.{Event, Tenure, Deliver, Begin, Finish, Abort, Resend, Nudge, Withdraw, Prune, Retire, RestartNode, RestartCoordinator, Forge, Forget, FailSave, Farm, Turn, settled, coordinated, is_node, at_node, restarts, delivered, step}

@@ -9,7 +9,7 @@ use Rattle.protocol.specs.Names.{Mode, Shared, Private, Locked, Slot, slot_eq, s
 use Rattle.protocol.specs.Machine.{Grant, GrantedSlot, News, Ending, Granted, Pruned, ticket_of, Withdrawn, Message, FromCoord, Parked, Machine, Live, Free, Based, AnswersAsk, SameAsk, want_of, line, version_at, slots_of, Names, written, acquire, commit, release, IsPartOf, Ends_part, Keeps, Leaves, Step, Grants, Ends, Prunes, Sees, Retires, Parks, Unparks, Raises, Steps, No_step, One_more, Says, Says_granted, Says_committed, Says_fenced, Says_denied, Says_recall}
 use Rattle.farm_base.specs.declared.message.FromCoord.TheVariants as told
 use Rattle.farm_base.specs.declared.message.Why.{Why}
-use Rattle.protocol.specs.declared.answer.CoordNote.{CoordNote}
+use Rattle.events.specs.declared.answer.CoordNote.{CoordNote}
 use Rattle.protocol.specs.Ledger.{Limits, Ledger, Work, Lease, says, notes, some_lease, is_leased, is_free, lowest, instance_for, slot_for, all_taken, busy, last_digest, granted_slot, grant_of, Decision, Give, Deny, Wait, pick, another, elsewhere, decision, lease_for, raised, gives, denies, carried_out, tried, try_all, waiting, retried}
 use Rattle.protocol.specs.Follows.{lease_from, NoLease, Waits, Works, Begins_work, Goes_on, Speaks, Follows}
 use Rattle.protocol.proofs.Base.{true_false, none_some, some_is, slot_eq_same, slot_eq_is, node_is, from_map, any_none, in_append, in_left, in_right, in_one}

@@ -12,15 +12,15 @@ use Rattle.farm_base.specs.declared.message.ToNode.{ToNode}
 use Rattle.farm_base.specs.declared.message.ToNode.TheVariants as to_node
 use Rattle.farm_base.specs.declared.message.FromCoord.TheVariants as told
 use Rattle.farm_base.specs.declared.message.Why.{Why}
-use Rattle.protocol.specs.declared.answer.How.{How}
-use Rattle.protocol.specs.declared.answer.How.TheVariants as how
-use Rattle.protocol.specs.declared.answer.Kept.{Kept}
-use Rattle.protocol.specs.declared.answer.Kept.TheVariants.{Old, New}
-use Rattle.protocol.specs.declared.answer.CoordRefusal.{CoordRefusal}
-use Rattle.protocol.specs.declared.answer.NodeNote.{NodeNote}
-use Rattle.protocol.specs.declared.answer.NodeNote.TheVariants as note
-use Rattle.protocol.specs.declared.answer.NodeRefusal.{NodeRefusal}
-use Rattle.protocol.specs.declared.answer.NodeRefusal.TheVariants as refusal
+use Rattle.events.specs.declared.answer.How.{How}
+use Rattle.events.specs.declared.answer.How.TheVariants as how
+use Rattle.events.specs.declared.answer.Kept.{Kept}
+use Rattle.events.specs.declared.answer.Kept.TheVariants.{Old, New}
+use Rattle.events.specs.declared.answer.CoordRefusal.{CoordRefusal}
+use Rattle.events.specs.declared.answer.NodeNote.{NodeNote}
+use Rattle.events.specs.declared.answer.NodeNote.TheVariants as note
+use Rattle.events.specs.declared.answer.NodeRefusal.{NodeRefusal}
+use Rattle.events.specs.declared.answer.NodeRefusal.TheVariants as refusal
 use Rattle.protocol.specs.Lists.{In, nth, set_nth}
 use Rattle.protocol.specs.Names.{NodeId, Life, Ask, Ticket, Digest, Want, FolderName, Shared, slots_eq, tenure_wants, digest_eq}
 use Rattle.protocol.specs.Machine.{Grant, GrantedSlot, Confirmed, Message, Told, Fetches, FromCoord, hello, acquire, commit, release, slots_of, written}

@@ -9,9 +9,9 @@ use Rattle.protocol.specs.Names.{Slot, slot_eq, is_private, only_slot, NodeId, L
 use Rattle.protocol.specs.Machine.{News, LineVersion, Parked, ToCoord, digest_for, version_of, cleared}
 use Rattle.farm_base.specs.declared.message.Request.{Request}
 use Rattle.farm_base.specs.declared.message.Request.TheVariants.{Hello, Acquire, Commit, Release}
-use Rattle.protocol.specs.declared.answer.CoordRefusal.{CoordRefusal}
-use Rattle.protocol.specs.declared.answer.CoordRefusal.TheVariants as coord
-use Rattle.protocol.specs.declared.answer.CoordNote.TheVariants as note
+use Rattle.events.specs.declared.answer.CoordRefusal.{CoordRefusal}
+use Rattle.events.specs.declared.answer.CoordRefusal.TheVariants as coord
+use Rattle.events.specs.declared.answer.CoordNote.TheVariants as note
 use Rattle.protocol.specs.Ledger.{Limits, Ledger, Lease, Work, begin_work, notes, has_slot, some_lease, is_leased, is_free, lowest, slot_for, all_taken, busy, is_saved, pick, Decision, Give, Deny, Wait, another, elsewhere, decision, lease_for, raised, gives, carried_out, tried, try_all, waiting, retried, is_of, lease_of, is_parked, recall, recalls, holds_wanted, decided, acquiring, has_ticket, lease_under, without, ends, commits, confirms, is_its, may_commit, may_release, on_all, committing, released, answering, is_older, is_older_ask, sees, is_home, newer_life, handled, retires, withdraws, withdrawing, withdrawn, is_at, goes, retired, prunes, pruned, reads, saves}
 use Rattle.protocol.specs.Ledger as ledger
 use Rattle.protocol.specs.Follows.{NoLease}

@@ -7,11 +7,11 @@ use Rattle.farm_base.specs.declared.message.FromCoord.{FromCoord}
 use Rattle.farm_base.specs.declared.message.FromCoord.TheVariants as told
 use Rattle.farm_base.specs.declared.message.ToNode.TheVariants as to_node
 use Rattle.farm_base.specs.declared.message.Why.{Why}
-use Rattle.protocol.specs.declared.answer.How.TheVariants as how
-use Rattle.protocol.specs.declared.answer.NodeNote.{NodeNote}
-use Rattle.protocol.specs.declared.answer.NodeNote.TheVariants as note
-use Rattle.protocol.specs.declared.answer.NodeRefusal.{NodeRefusal}
-use Rattle.protocol.specs.declared.answer.NodeRefusal.TheVariants as refusal
+use Rattle.events.specs.declared.answer.How.TheVariants as how
+use Rattle.events.specs.declared.answer.NodeNote.{NodeNote}
+use Rattle.events.specs.declared.answer.NodeNote.TheVariants as note
+use Rattle.events.specs.declared.answer.NodeRefusal.{NodeRefusal}
+use Rattle.events.specs.declared.answer.NodeRefusal.TheVariants as refusal
 use Rattle.protocol.specs.Lists.{In, nth, set_nth}
 use Rattle.protocol.specs.Names.{NodeId, Life, Ask, Ticket, Slot, Digest, Want, FolderName, Shared, slot_eq, digest_eq, slots_eq, tenure_wants}
 use Rattle.protocol.specs.Machine.{Grant, GrantedSlot, Confirmed, Message, Fetches, slots_of, written}

@@ -10,8 +10,8 @@ use Rattle.protocol.specs.Names.{Shared, slots_eq, digest_eq, NodeId, Life, Ask,
 use Rattle.protocol.specs.Machine.{GrantedSlot, Confirmed, Grant, Message, Told, Fetches, Blob, FromCoord, hello, acquire, commit, release, written, slots_of}
 use Rattle.farm_base.specs.declared.message.FromCoord.TheVariants as told
 use Rattle.farm_base.specs.declared.message.Why.{Why}
-use Rattle.protocol.specs.declared.answer.How.TheVariants as how
-use Rattle.protocol.specs.declared.answer.NodeRefusal.{NodeRefusal}
+use Rattle.events.specs.declared.answer.How.TheVariants as how
+use Rattle.events.specs.declared.answer.NodeRefusal.{NodeRefusal}
 use Rattle.protocol.specs.Ledger.{Limits}
 use Rattle.protocol.specs.World.{KeptAsk, Open, Holding, Running, Finished, Over, Node, World, keeps, learn_bases, learn_versions, keep, without, has_life, IsTenureOf, Asked_tenure, Held_tenure, Running_tenure, Finished_tenure, RunsTenure, Uses, Open_uses, Held_uses, Running_uses, Idle, Act, Asks, Asks_tenure, Asks_again, Greets, Takes, Gives_back, Begins, Finishes, Gives_up, Sends_commit, Learns, Drops, Is_denied, Is_recalled, Is_recalled_running, Stores, Forgets, Asks_content, Sends_blob, Restarts, Stops, Node_moves, Moves, Still, Then}
 use Rattle.protocol.specs.Nodes.{NodeWork, NodeAnswer, guard, Place, wants_folder, is_tenure_of, is_home_of, uses, at_home, others_use, in_use, HeldGrant, Sent, first, first_of, under, held, running, held_or_running, finished, recalled_if, recallable, is_stored, all_stored, is_missing, others, fetches_of, fetches, is_base, asked, asked_tenure, beginning, begun, Left, news_of, stored, leaving, finishing, finished_with, aborting, aborted, again, all_again, forgotten, needs, resent, restarted, gives_back, granted, learned, dropped, denied, recalled, of_life, heard, fetched, brought, unless_spent}

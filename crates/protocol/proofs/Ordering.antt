@@ -10,10 +10,10 @@ use Rattle.protocol.specs.Machine.{Grant, Granted, News, slots_of, Message, From
 use Rattle.farm_base.specs.declared.message.Request.{Request}
 use Rattle.farm_base.specs.declared.message.Request.TheVariants.{Hello, Acquire, Commit, Release}
 use Rattle.farm_base.specs.declared.message.FromCoord.TheVariants as told
-use Rattle.protocol.specs.declared.answer.CoordRefusal.{CoordRefusal}
-use Rattle.protocol.specs.declared.answer.CoordRefusal.TheVariants as refusal
-use Rattle.protocol.specs.declared.answer.CoordNote.{CoordNote}
-use Rattle.protocol.specs.declared.answer.CoordNote.TheVariants as note
+use Rattle.events.specs.declared.answer.CoordRefusal.{CoordRefusal}
+use Rattle.events.specs.declared.answer.CoordRefusal.TheVariants as refusal
+use Rattle.events.specs.declared.answer.CoordNote.{CoordNote}
+use Rattle.events.specs.declared.answer.CoordNote.TheVariants as note
 use Rattle.protocol.specs.Ledger.{Limits, Ledger, Lease, Work, begin_work, says, notes, has_slot, some_lease, is_leased, is_free, lowest, slot_for, Decision, Give, Deny, Wait, elsewhere, decision, lease_for, grant_of, gives, denies, carried_out, tried, try_all, parks, retried, is_of, lease_of, is_parked, holds_wanted, recall, recalls, decided, acquiring, ends, commits, versions_of, lease_under, has_ticket, is_its, writable_slots, may_commit, may_release, on_all, confirms, committing, released, answering, is_older, is_older_ask, sees, is_home, newer_life, handled, withdraws, withdrawing, withdrawn, is_at, goes, retired, prunes, pruned, is_awaited, nudges, nudge_all, nudged}
 use Rattle.protocol.specs.Ledger as ledger
 use Rattle.protocol.specs.Follows.{lease_from, NoneReady, Agrees}

@@ -9,10 +9,10 @@ use Rattle.protocol.specs.Lists.{In, put, is_nil}
 use Rattle.protocol.specs.Names.{Slot, slot_eq, is_private, NodeId, Life, Ticket}
 use Rattle.protocol.specs.Machine.{Grant, GrantedSlot, LineVersion, Ending, Granted, Pruned, Withdrawn, Died, Message, Said, ToCoord, FromCoord, Parked, Machine, Has, Live, line, WasHeard, cleared, IsPartOf, Step, Prunes, Sees, Retires, Unparks, Raises, Says, Says_recall}
 use Rattle.farm_base.specs.declared.message.FromCoord.TheVariants as told
-use Rattle.protocol.specs.declared.answer.CoordNote.{CoordNote}
-use Rattle.protocol.specs.declared.answer.CoordNote.TheVariants as note
-use Rattle.protocol.specs.declared.answer.CoordRefusal.{CoordRefusal}
-use Rattle.protocol.specs.declared.answer.CoordRefusal.TheVariants as refusal
+use Rattle.events.specs.declared.answer.CoordNote.{CoordNote}
+use Rattle.events.specs.declared.answer.CoordNote.TheVariants as note
+use Rattle.events.specs.declared.answer.CoordRefusal.{CoordRefusal}
+use Rattle.events.specs.declared.answer.CoordRefusal.TheVariants as refusal
 use Rattle.protocol.specs.Ledger.{Limits, Ledger, Work, Lease, begin_work, notes, has_slot, some_lease, is_leased, is_saved, grant_of, retried, holds_wanted, has_ticket, lease_under, is_older, is_older_ask, sees, is_home, newer_life, handled, retires, withdraws, withdrawing, withdrawn, is_at, retire_all, goes, retired, prunes, pruned, is_awaited, nudges, nudge_all, nudged, reread}
 use Rattle.protocol.specs.Follows.{lease_from, Works, Begins_work, Goes_on, Speaks, Agrees, WithdrawIsTaken}
 use Rattle.protocol.specs.Meaning.{Ended, MessageEnds, Of_older_life, By_commit, By_release, WithdrawEnds, RetireEnds, RestartEnds, NoEnds, CoordMeans, Meant}

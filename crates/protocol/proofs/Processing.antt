@@ -10,13 +10,13 @@ use Rattle.farm_base.specs.declared.message.FromCoord.TheVariants as told
 use Rattle.protocol.specs.Lists.{In, IsFrontOf, put, nth}
 use Rattle.protocol.specs.Names.{NodeId, Life, Ask, Ticket, Slot, Digest, Want}
 use Rattle.protocol.specs.Machine.{Grant, LineVersion, Fetch, Blob, Message, Said, Told, hello, acquire, IsPartOf, Ends_part, Keeps, Leaves}
-use Rattle.protocol.specs.declared.answer.CoordRefusal.{CoordRefusal}
-use Rattle.protocol.specs.declared.answer.EventRefusal.TheVariants as refusal
-use Rattle.protocol.specs.declared.answer.Outcome.{Outcome}
-use Rattle.protocol.specs.declared.answer.Kept.{Kept}
-use Rattle.protocol.specs.declared.answer.Kept.TheVariants.{Old, New}
+use Rattle.events.specs.declared.answer.CoordRefusal.{CoordRefusal}
+use Rattle.events.specs.declared.answer.EventRefusal.TheVariants as refusal
+use Rattle.events.specs.declared.answer.Outcome.{Outcome}
+use Rattle.events.specs.declared.answer.Kept.{Kept}
+use Rattle.events.specs.declared.answer.Kept.TheVariants.{Old, New}
 use Rattle.protocol.specs.Ledger.{Limits, Ledger, Lease, Work, begin_work, handled, withdrawn, retired, pruned, nudged, Saved, saves, reads}
-use Rattle.protocol.specs.declared.answer.NodeRefusal.TheVariants as node_refusal
+use Rattle.events.specs.declared.answer.NodeRefusal.TheVariants as node_refusal
 use Rattle.protocol.specs.Ledger as ledger
 use Rattle.protocol.specs.World.{KeptAsk, Node, Running, has_life, first_node, start}
 use Rattle.protocol.specs.Nodes.{Place, guard, fetched, NodeWork, NodeAnswer, asked, asked_tenure, begun, finished_with, aborted, forgotten, resent, may_restart, restarted, received, brought, unless_spent}

@@ -9,9 +9,9 @@ use Rattle.protocol.specs.Machine.{Grant, News, Message, FromCoord, ToCoord, Par
 use Rattle.farm_base.specs.declared.message.Request.{Request}
 use Rattle.farm_base.specs.declared.message.Request.TheVariants.{Hello, Acquire, Commit, Release}
 use Rattle.farm_base.specs.declared.message.FromCoord.TheVariants as told
-use Rattle.protocol.specs.declared.answer.CoordRefusal.{CoordRefusal}
-use Rattle.protocol.specs.declared.answer.CoordRefusal.TheVariants as refusal
-use Rattle.protocol.specs.declared.answer.CoordNote.TheVariants as note
+use Rattle.events.specs.declared.answer.CoordRefusal.{CoordRefusal}
+use Rattle.events.specs.declared.answer.CoordRefusal.TheVariants as refusal
+use Rattle.events.specs.declared.answer.CoordNote.TheVariants as note
 use Rattle.protocol.specs.Ledger.{Limits, Ledger, Lease, Work, begin_work, says, notes, has_slot, is_leased, Decision, Give, Deny, Wait, elsewhere, decision, gives, denies, carried_out, tried, try_all, parks, retried, holds_wanted, recall, recalls, decided, acquiring, lease_of, is_parked, ends, lease_under, may_commit, on_all, confirms, commits, committing, may_release, released, answering, is_older, sees, is_home, newer_life, handled, withdraws, withdrawing, withdrawn, is_at, goes, retired, prunes, pruned, is_awaited, nudges, nudge_all, nudged, grant_of}
 use Rattle.protocol.specs.Ledger as ledger
 use Rattle.protocol.specs.Follows.{Agrees}

@@ -9,10 +9,10 @@ use Rattle.protocol.specs.Machine.{News, FromCoord, ToCoord, Parked}
 use Rattle.farm_base.specs.declared.message.Request.{Request}
 use Rattle.farm_base.specs.declared.message.Request.TheVariants.{Hello, Acquire, Commit, Release}
 use Rattle.farm_base.specs.declared.message.FromCoord.TheVariants as told
-use Rattle.protocol.specs.declared.answer.CoordRefusal.{CoordRefusal}
-use Rattle.protocol.specs.declared.answer.CoordRefusal.TheVariants as refusal
-use Rattle.protocol.specs.declared.answer.CoordNote.{CoordNote}
-use Rattle.protocol.specs.declared.answer.CoordNote.TheVariants as note
+use Rattle.events.specs.declared.answer.CoordRefusal.{CoordRefusal}
+use Rattle.events.specs.declared.answer.CoordRefusal.TheVariants as refusal
+use Rattle.events.specs.declared.answer.CoordNote.{CoordNote}
+use Rattle.events.specs.declared.answer.CoordNote.TheVariants as note
 use Rattle.protocol.specs.Ledger.{Limits, Ledger, Lease, Work, begin_work, says, notes, is_leased, Decision, Give, Deny, Wait, elsewhere, decision, lease_for, gives, carried_out, tried, try_all, parks, retried, holds_wanted, recall, recalls, decided, acquiring, is_of, lease_of, is_parked, ends, lease_under, may_commit, on_all, confirms, commits, versions_of, committing, may_release, released, answering, is_older, is_older_ask, sees, is_home, newer_life, handled, withdraws, withdrawing, withdrawn, is_at, goes, retired, prunes, pruned, is_awaited, nudges, nudge_all, nudged, grant_of}
 use Rattle.protocol.specs.Ledger as ledger
 use Rattle.protocol.proofs.Base.{in_append, in_one, from_filter}

@@ -8,9 +8,9 @@ use Rattle.protocol.specs.Names.{Slot, slot_eq, is_private, NodeId, Life, Ticket
 use Rattle.protocol.specs.Machine.{ToCoord, Parked, News}
 use Rattle.farm_base.specs.declared.message.Request.{Request}
 use Rattle.farm_base.specs.declared.message.Request.TheVariants.{Hello, Acquire, Commit, Release}
-use Rattle.protocol.specs.declared.answer.CoordRefusal.{CoordRefusal}
-use Rattle.protocol.specs.declared.answer.CoordRefusal.TheVariants as coord
-use Rattle.protocol.specs.declared.answer.CoordNote.TheVariants as note
+use Rattle.events.specs.declared.answer.CoordRefusal.{CoordRefusal}
+use Rattle.events.specs.declared.answer.CoordRefusal.TheVariants as coord
+use Rattle.events.specs.declared.answer.CoordNote.TheVariants as note
 use Rattle.protocol.specs.Ledger.{Limits, Ledger, Lease, Saved, saves, Work, begin_work, notes, has_slot, is_saved, is_leased, Decision, Give, Deny, Wait, elsewhere, decision, lease_for, raised, gives, carried_out, tried, try_all, retried, holds_wanted, recall, recalls, decided, acquiring, lease_of, is_parked, has_ticket, without, ends, lease_under, may_commit, on_all, committing, confirms, commits, may_release, released, answering, is_older, sees, is_home, newer_life, handled, retires, withdraws, withdrawing, withdrawn, is_at, goes, retired, prunes, pruned, is_awaited, nudges, nudge_all, nudged}
 use Rattle.protocol.specs.Ledger as ledger
 use Rattle.protocol.proofs.Base.{true_false, in_append, in_one, from_any, any_none, from_filter, slot_eq_is}

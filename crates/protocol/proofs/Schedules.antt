@@ -13,26 +13,26 @@ use Rattle.protocol.specs.World.{Running, World, Node, Move, Machine_moves, Mach
 use Rattle.protocol.specs.Nodes.{NodeWork, NodeAnswer, Place, asked, asked_tenure, begun, finished_with, aborted, forgotten, resent, restarted, may_restart, heard, fetched, brought, unless_spent}
 use Rattle.protocol.specs.Replay.{Event, Tenure, Deliver, Begin, Finish, Abort, Resend, Nudge, Withdraw, Prune, Retire, RestartNode, RestartCoordinator, Forge, Forget, FailSave, Farm, Turn, opening, refused, first_sent, done, after_work, settled, settles, coordinated, is_node, moved, answered, at_node, node_does, restarts, told_to, delivered, step, run}
 use Rattle.protocol.specs.Replay as replay
-use Rattle.protocol.specs.declared.answer.Kept.{Kept}
-use Rattle.protocol.specs.declared.answer.Kept.TheVariants.{Old, New}
-use Rattle.protocol.specs.declared.answer.CoordRefusal.{CoordRefusal}
-use Rattle.protocol.specs.declared.answer.CoordRefusal.TheVariants as coord
-use Rattle.protocol.specs.declared.answer.CoordNote.{CoordNote}
-use Rattle.protocol.specs.declared.answer.CoordNote.TheVariants as coord_note
-use Rattle.protocol.specs.declared.answer.NodeNote.{NodeNote}
-use Rattle.protocol.specs.declared.answer.NodeNote.TheVariants as node_note
-use Rattle.protocol.specs.declared.answer.EventNote.{EventNote}
-use Rattle.protocol.specs.declared.answer.EventNote.TheVariants as event_note
-use Rattle.protocol.specs.declared.answer.EventRefusal.{EventRefusal}
-use Rattle.protocol.specs.declared.answer.EventRefusal.TheVariants as refusal
+use Rattle.events.specs.declared.answer.Kept.{Kept}
+use Rattle.events.specs.declared.answer.Kept.TheVariants.{Old, New}
+use Rattle.events.specs.declared.answer.CoordRefusal.{CoordRefusal}
+use Rattle.events.specs.declared.answer.CoordRefusal.TheVariants as coord
+use Rattle.events.specs.declared.answer.CoordNote.{CoordNote}
+use Rattle.events.specs.declared.answer.CoordNote.TheVariants as coord_note
+use Rattle.events.specs.declared.answer.NodeNote.{NodeNote}
+use Rattle.events.specs.declared.answer.NodeNote.TheVariants as node_note
+use Rattle.events.specs.declared.answer.EventNote.{EventNote}
+use Rattle.events.specs.declared.answer.EventNote.TheVariants as event_note
+use Rattle.events.specs.declared.answer.EventRefusal.{EventRefusal}
+use Rattle.events.specs.declared.answer.EventRefusal.TheVariants as refusal
 use Rattle.protocol.specs.Safe.{InUse}
 use Rattle.protocol.specs.Meaning.{heard_lives, Ended, MessageEnds, WithdrawEnds, RetireEnds, RestartEnds, NoEnds, EndsAt, recorded, Finds, message_adds, message_lives, lives_at, IsAnswered, DropsAt, adds, BeginsAt, StopsAt, Used, CoordMeans, Meant, Asks, MessageMeans, CoordDid, Again, Carried, addressee, node_at, heard_at, NodeMeans, Hears, Did, takes_slot, IsAwaited, Recalls, TicketsRise, IsDenied, HasLowest, PassesOverNone, KeepsOrder, IsDue, IsCommit, Replies, first_number, Survives, Unchanged, Means}
 use Rattle.protocol.specs.Reasons.{CallBecause, message_decision, decision_at, IsThere, Reaches, CoordBecause, NodeBecause, Because, Fair}
 use Rattle.farm_base.specs.declared.message.Request.{Request}
 use Rattle.farm_base.specs.declared.message.Request.TheVariants as request
 use Rattle.std.specs.List.{list_any}
-use Rattle.protocol.specs.declared.answer.NodeRefusal.{NodeRefusal}
-use Rattle.protocol.specs.declared.answer.NodeRefusal.TheVariants as node_refusal
+use Rattle.events.specs.declared.answer.NodeRefusal.{NodeRefusal}
+use Rattle.events.specs.declared.answer.NodeRefusal.TheVariants as node_refusal
 use Rattle.protocol.proofs.Meanings.{none_ended, ended_as}
 use Rattle.protocol.proofs.Deciding.{apart_of}
 use Rattle.protocol.proofs.Deciding as deciding

@@ -7,16 +7,16 @@ use Rattle.protocol.specs.Machine.{Grant, GrantedSlot, Confirmed, LineVersion, M
 use Rattle.farm_base.specs.declared.message.Request.TheVariants.{Acquire}
 use Rattle.farm_base.specs.declared.message.FromCoord.TheVariants as told
 use Rattle.farm_base.specs.declared.message.Why.TheVariants as why
-use Rattle.protocol.specs.declared.answer.CoordNote.{CoordNote}
-use Rattle.protocol.specs.declared.answer.CoordNote.TheVariants as coord
-use Rattle.protocol.specs.declared.answer.CoordRefusal.TheVariants as coord_refusal
-use Rattle.protocol.specs.declared.answer.NodeRefusal.TheVariants as node_refusal
-use Rattle.protocol.specs.declared.answer.EventRefusal.{EventRefusal}
-use Rattle.protocol.specs.declared.answer.EventRefusal.TheVariants as refusal
-use Rattle.protocol.specs.declared.answer.EventNote.TheVariants as note
-use Rattle.protocol.specs.declared.answer.Kept.{Kept}
-use Rattle.protocol.specs.declared.answer.Kept.TheVariants.{Old, New}
-use Rattle.protocol.specs.declared.answer.Outcome.{Outcome}
+use Rattle.events.specs.declared.answer.CoordNote.{CoordNote}
+use Rattle.events.specs.declared.answer.CoordNote.TheVariants as coord
+use Rattle.events.specs.declared.answer.CoordRefusal.TheVariants as coord_refusal
+use Rattle.events.specs.declared.answer.NodeRefusal.TheVariants as node_refusal
+use Rattle.events.specs.declared.answer.EventRefusal.{EventRefusal}
+use Rattle.events.specs.declared.answer.EventRefusal.TheVariants as refusal
+use Rattle.events.specs.declared.answer.EventNote.TheVariants as note
+use Rattle.events.specs.declared.answer.Kept.{Kept}
+use Rattle.events.specs.declared.answer.Kept.TheVariants.{Old, New}
+use Rattle.events.specs.declared.answer.Outcome.{Outcome}
 use Rattle.protocol.specs.Ledger.{Limits, Lease, is_saved, Saved, saves, Work, begin_work, grant_of, lease_for, handled}
 use Rattle.protocol.specs.World.{World, Moves, start}
 use Rattle.protocol.specs.Safe.{HoldsContent, Rising, Safe, SafeSince}

@@ -5,8 +5,8 @@ use Rattle.farm_base.specs.Kinds.{has_shared, is_tenure}
 use Rattle.protocol.specs.Lists.{In}
 use Rattle.farm_base.specs.declared.message.Request.TheVariants.{Acquire, Commit, Release}
 use Rattle.farm_base.specs.declared.message.FromCoord.TheVariants as told
-use Rattle.protocol.specs.declared.answer.CoordNote.TheVariants as note
-use Rattle.protocol.specs.declared.answer.CoordRefusal.{CoordRefusal}
+use Rattle.events.specs.declared.answer.CoordNote.TheVariants as note
+use Rattle.events.specs.declared.answer.CoordRefusal.{CoordRefusal}
 use Rattle.protocol.specs.Names.{Slot, NodeId, Life, Ticket, Digest, leased_wants}
 use Rattle.protocol.specs.Machine.{Grant, Granted, News, Ending, written, slots_of, Message, Said, acquire, ToCoord, FromCoord, Parked, Machine, Live, Retired, line, Step, Says}
 use Rattle.protocol.specs.Ledger.{Limits, Ledger, Lease, Work, begin_work, is_of, lease_of, is_parked, is_free, is_leased, all_taken, busy, elsewhere, decision, Give, grant_of, lease_for, newer_life, handled, withdrawn, retired, pruned, nudged, reread, saves}

@@ -8,7 +8,7 @@ use Rattle.farm_base.specs.declared.message.Message.TheVariants as to
 use Rattle.protocol.specs.Lists.{In}
 use Rattle.protocol.specs.Names.{Slot, is_private, is_shared, NodeId, Life, Ask, Ticket, Digest, Want, leased_wants}
 use Rattle.protocol.specs.Machine.{LineVersion, Message, ToCoord, Parked}
-use Rattle.protocol.specs.declared.answer.CoordRefusal.{CoordRefusal}
+use Rattle.events.specs.declared.answer.CoordRefusal.{CoordRefusal}
 use Rattle.protocol.specs.Ledger.{Limits, Ledger, Lease, Work, begin_work, handled, withdrawn, retired, pruned, saves, reads, has_slot, is_of}
 use Rattle.protocol.specs.Follows.{Waits}
 use Rattle.protocol.specs.World.{Open, Node}

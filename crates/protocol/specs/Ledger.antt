@@ -12,12 +12,12 @@ use Rattle.farm_base.specs.declared.message.FromCoord.TheVariants as told
 use Rattle.farm_base.specs.declared.message.Why.{Why}
 use Rattle.farm_base.specs.declared.message.Why.TheVariants.{InstancesSpent, TicketsSpent}
 pub use Rattle.farm_base.specs.declared.lease.Lease.{Lease}
-use Rattle.protocol.specs.declared.answer.CoordNote.{CoordNote}
-use Rattle.protocol.specs.declared.answer.CoordNote.TheVariants as note
-use Rattle.protocol.specs.declared.answer.CoordRefusal.{CoordRefusal}
-use Rattle.protocol.specs.declared.answer.CoordRefusal.TheVariants as refusal
-pub use Rattle.protocol.specs.declared.answer.Decision.{Decision}
-pub use Rattle.protocol.specs.declared.answer.Decision.TheVariants.{Give, Deny, Wait}
+use Rattle.events.specs.declared.answer.CoordNote.{CoordNote}
+use Rattle.events.specs.declared.answer.CoordNote.TheVariants as note
+use Rattle.events.specs.declared.answer.CoordRefusal.{CoordRefusal}
+use Rattle.events.specs.declared.answer.CoordRefusal.TheVariants as refusal
+pub use Rattle.events.specs.declared.answer.Decision.{Decision}
+pub use Rattle.events.specs.declared.answer.Decision.TheVariants.{Give, Deny, Wait}
 
 -- the numbers that bound a farm, and the digest of the empty content
 pub record Limits : Type 0 where

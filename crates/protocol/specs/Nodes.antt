@@ -11,12 +11,12 @@ use Rattle.farm_base.specs.declared.message.ToNode.TheVariants as to_node
 use Rattle.protocol.specs.Ledger.{Limits}
 use Rattle.protocol.specs.World.{KeptAsk, Open, Holding, Running, Finished, Over, Node, keeps, learn_bases, learn_versions, keep, without, has_life}
 use Rattle.farm_base.specs.declared.message.FromCoord.TheVariants as told
-use Rattle.protocol.specs.declared.answer.How.TheVariants as how
+use Rattle.events.specs.declared.answer.How.TheVariants as how
 use Rattle.farm_base.specs.declared.message.Why.{Why}
-use Rattle.protocol.specs.declared.answer.NodeNote.{NodeNote}
-use Rattle.protocol.specs.declared.answer.NodeNote.TheVariants as note
-use Rattle.protocol.specs.declared.answer.NodeRefusal.{NodeRefusal}
-use Rattle.protocol.specs.declared.answer.NodeRefusal.TheVariants as refusal
+use Rattle.events.specs.declared.answer.NodeNote.{NodeNote}
+use Rattle.events.specs.declared.answer.NodeNote.TheVariants as note
+use Rattle.events.specs.declared.answer.NodeRefusal.{NodeRefusal}
+use Rattle.events.specs.declared.answer.NodeRefusal.TheVariants as refusal
 
 -- the result of a call: the node after it, what it sends, and the note
 pub record NodeWork : Type 0 where

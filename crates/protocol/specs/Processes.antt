@@ -11,7 +11,7 @@ use Rattle.protocol.specs.Machine.{Grant, Confirmed, LineVersion, Message, ToCoo
 use Rattle.farm_base.specs.declared.message.Message.TheVariants as to
 use Rattle.farm_base.specs.declared.message.ToNode.TheVariants as to_node
 use Rattle.farm_base.specs.declared.message.FromCoord.TheVariants as told
-use Rattle.protocol.specs.declared.answer.CoordRefusal.{CoordRefusal}
+use Rattle.events.specs.declared.answer.CoordRefusal.{CoordRefusal}
 use Rattle.protocol.specs.Ledger.{Limits, Ledger, Work, begin_work, handled, withdrawn, retired, pruned, nudged, Lease, Saved, saves, reads}
 use Rattle.protocol.specs.Ledger as ledgers
 use Rattle.protocol.specs.World.{KeptAsk, Node, Running, has_life, first_node}

@@ -5,13 +5,13 @@ use Rattle.protocol.specs.Lists.{In, nth}
 use Rattle.protocol.specs.Names.{Shared, NodeId, Ticket, Want, wants_shared}
 use Rattle.protocol.specs.Machine.{Grant, GrantedSlot, Message, Said, ToCoord, Machine, Live, Leased, line, written}
 use Rattle.farm_base.specs.declared.message.Message.TheVariants as to
-use Rattle.protocol.specs.declared.answer.CoordRefusal.{CoordRefusal}
-use Rattle.protocol.specs.declared.answer.CoordRefusal.TheVariants as coord
-use Rattle.protocol.specs.declared.answer.NodeRefusal.{NodeRefusal}
-use Rattle.protocol.specs.declared.answer.NodeRefusal.TheVariants as node
-use Rattle.protocol.specs.declared.answer.EventRefusal.{EventRefusal}
-use Rattle.protocol.specs.declared.answer.EventRefusal.TheVariants as event
-use Rattle.protocol.specs.declared.answer.Outcome.{Outcome}
+use Rattle.events.specs.declared.answer.CoordRefusal.{CoordRefusal}
+use Rattle.events.specs.declared.answer.CoordRefusal.TheVariants as coord
+use Rattle.events.specs.declared.answer.NodeRefusal.{NodeRefusal}
+use Rattle.events.specs.declared.answer.NodeRefusal.TheVariants as node
+use Rattle.events.specs.declared.answer.EventRefusal.{EventRefusal}
+use Rattle.events.specs.declared.answer.EventRefusal.TheVariants as event
+use Rattle.events.specs.declared.answer.Outcome.{Outcome}
 use Rattle.protocol.specs.Ledger.{Limits, Work, begin_work, saves, handled, withdrawn, retired, pruned, nudged}
 use Rattle.protocol.specs.World.{KeptAsk, Holding, Running, Node, World, RunsTenure, IsTenureOf, Idle}
 use Rattle.protocol.specs.Nodes.{Left}

@@ -9,18 +9,18 @@ use Rattle.protocol.specs.Ledger.{Limits, Ledger, Work, begin_work, handled, wit
 use Rattle.protocol.specs.Ledger as ledger
 use Rattle.protocol.specs.World.{Node, first_node}
 use Rattle.protocol.specs.Nodes.{Place, NodeWork, NodeAnswer, asked, asked_tenure, begun, finished_with, aborted, forgotten, resent, restarted, may_restart, received, brought, unless_spent}
-use Rattle.protocol.specs.declared.answer.Kept.{Kept}
-use Rattle.protocol.specs.declared.answer.Kept.TheVariants.{Old, New}
-use Rattle.protocol.specs.declared.answer.CoordRefusal.{CoordRefusal}
-use Rattle.protocol.specs.declared.answer.CoordRefusal.TheVariants as coord
-use Rattle.protocol.specs.declared.answer.NodeRefusal.TheVariants as node
-use Rattle.protocol.specs.declared.answer.EventNote.{EventNote}
-use Rattle.protocol.specs.declared.answer.EventNote.TheVariants as note
-use Rattle.protocol.specs.declared.answer.EventRefusal.{EventRefusal}
-use Rattle.protocol.specs.declared.answer.EventRefusal.TheVariants as refusal
-use Rattle.protocol.specs.declared.answer.Outcome.{Outcome}
-pub use Rattle.protocol.specs.declared.event.Event.{Event}
-pub use Rattle.protocol.specs.declared.event.Event.TheVariants.{Ask, Tenure, Deliver, Begin, Finish, Abort, Resend, Nudge, Withdraw, Prune, Retire, RestartNode, RestartCoordinator, Forge, Forget, FailSave}
+use Rattle.events.specs.declared.answer.Kept.{Kept}
+use Rattle.events.specs.declared.answer.Kept.TheVariants.{Old, New}
+use Rattle.events.specs.declared.answer.CoordRefusal.{CoordRefusal}
+use Rattle.events.specs.declared.answer.CoordRefusal.TheVariants as coord
+use Rattle.events.specs.declared.answer.NodeRefusal.TheVariants as node
+use Rattle.events.specs.declared.answer.EventNote.{EventNote}
+use Rattle.events.specs.declared.answer.EventNote.TheVariants as note
+use Rattle.events.specs.declared.answer.EventRefusal.{EventRefusal}
+use Rattle.events.specs.declared.answer.EventRefusal.TheVariants as refusal
+use Rattle.events.specs.declared.answer.Outcome.{Outcome}
+pub use Rattle.events.specs.declared.event.Event.{Event}
+pub use Rattle.events.specs.declared.event.Event.TheVariants.{Ask, Tenure, Deliver, Begin, Finish, Abort, Resend, Nudge, Withdraw, Prune, Retire, RestartNode, RestartCoordinator, Forge, Forget, FailSave}
 
 -- a farm between two events
 pub record Farm : Type 0 where

@@ -7,10 +7,10 @@ use Rattle.protocol.specs.Machine.{GrantedSlot, Grant, News, Confirmed, Message,
 use Rattle.farm_base.specs.declared.message.FromCoord.TheVariants as told
 pub use Rattle.farm_base.specs.declared.message.Why.{Why}
 pub use Rattle.farm_base.specs.declared.message.FromCoord.{FromCoord}
-pub use Rattle.protocol.specs.declared.answer.How.{How}
-pub use Rattle.protocol.specs.declared.ask.KeptAsk.{KeptAsk}
-pub use Rattle.protocol.specs.declared.ask.KeptAsk.TheVariants.{Open, Holding, Running, Finished, Over}
-use Rattle.protocol.specs.declared.answer.How.TheVariants as how
+pub use Rattle.events.specs.declared.answer.How.{How}
+pub use Rattle.events.specs.declared.ask.KeptAsk.{KeptAsk}
+pub use Rattle.events.specs.declared.ask.KeptAsk.TheVariants.{Open, Holding, Running, Finished, Over}
+use Rattle.events.specs.declared.answer.How.TheVariants as how
 
 -- what a node knows and keeps
 pub record Node : Type 0 where

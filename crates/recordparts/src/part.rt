@@ -20,7 +20,7 @@ fn take_front(bytes: &[u8], len: u64) -> Result<(&[u8], &[u8]), RecordRefusal>
 
 /// A number of four bytes, from `low` to `high`.
 #[tactic(auto, unfolding(crate::specs::Parts::front_at, crate::specs::Parts::number_at))]
-pub(crate) fn take_u32(bytes: &[u8], low: u32, high: u32) -> Result<(u32, &[u8]), RecordRefusal>
+pub fn take_u32(bytes: &[u8], low: u32, high: u32) -> Result<(u32, &[u8]), RecordRefusal>
     ensures { Gives (λ x. (x.0, x.1.now)) result (number_at w32 low high bytes.now) }
 {
     let Some((front, rest)) = bytes.split_first_chunk::<4>() else {
@@ -49,7 +49,7 @@ pub fn take_u64(bytes: &[u8], low: u64, high: u64) -> Result<(u64, &[u8]), Recor
 }
 
 #[tactic(auto, unfolding(crate::specs::Parts::flag_at))]
-pub(crate) fn take_flag(bytes: &[u8]) -> Result<(bool, &[u8]), RecordRefusal>
+pub fn take_flag(bytes: &[u8]) -> Result<(bool, &[u8]), RecordRefusal>
     ensures { Gives (λ x. (x.0, x.1.now)) result (flag_at bytes.now) }
 {
     match bytes {
@@ -61,7 +61,7 @@ pub(crate) fn take_flag(bytes: &[u8]) -> Result<(bool, &[u8]), RecordRefusal>
 }
 
 #[tactic(auto, unfolding(crate::specs::Parts::front_at, crate::specs::Parts::digest_at))]
-pub(crate) fn take_digest(bytes: &[u8]) -> Result<(Digest, &[u8]), RecordRefusal>
+pub fn take_digest(bytes: &[u8]) -> Result<(Digest, &[u8]), RecordRefusal>
     ensures { Gives (λ x. (x.0, x.1.now)) result (digest_at bytes.now) }
 {
     let Some((front, rest)) = bytes.split_first_chunk::<32>() else {

@@ -100,7 +100,7 @@ fn is_above(before: Option<&Slot>, slot: &Slot) -> bool
 
 /// A slot of a list that rises.
 #[tactic(auto, unfolding(crate::specs::Slots::slot_after))]
-pub(crate) fn take_slot_after<'a>(
+pub fn take_slot_after<'a>(
     alloc: Global,
     layout: Layout,
     before: Option<&Slot>,
@@ -154,7 +154,7 @@ fn put_id(out: &mut Vec<u8>, id: &str) -> Result<(), AllocError>
 }
 
 #[tactic(auto, unfolding(crate::specs::Spelling::slot_bytes))]
-pub(crate) fn put_slot(out: &mut Vec<u8>, slot: &Slot) -> Result<(), AllocError>
+pub fn put_slot(out: &mut Vec<u8>, slot: &Slot) -> Result<(), AllocError>
     ensures spelled { OnOk result (out.new.items ≡ out.old.items ++ slot_bytes slot.now) }
     ensures typed { OnOk result (IsTypedSlot slot.now) }
 {

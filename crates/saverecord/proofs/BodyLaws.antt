@@ -13,20 +13,22 @@ use Rattle.saverecord.specs.declared.record.Record.{Record}
 use Rattle.recordparts.specs.declared.refusal.Flaw.TheVariants.{Trailing}
 use Rattle.recordparts.specs.Parts.{passed}
 use Rattle.recordparts.specs.Slots.{is_slot_above}
-use Rattle.recordparts.specs.Entries.{is_above}
+use Rattle.recordlists.specs.Entries.{is_above}
 use Rattle.saverecord.specs.Records.{retired_nodes_at, body_at, whole_body}
-use Rattle.recordparts.specs.Spelling.{slot_bytes, counted, node_bytes, node_life_bytes, line_bytes}
+use Rattle.recordparts.specs.Spelling.{slot_bytes}
+use Rattle.recordlists.specs.EntrySpelling.{counted, node_bytes, node_life_bytes, line_bytes}
 use Rattle.saverecord.specs.Spelling.{first_bytes, nodes_bytes, slots_bytes, body_bytes}
-use Rattle.recordparts.specs.Fits.{IsNode, IsTypedNode, IsTypedList}
+use Rattle.recordparts.specs.Fits.{IsNode}
+use Rattle.recordlists.specs.EntryFits.{IsTypedNode, IsTypedList}
 use Rattle.saverecord.specs.Fits.{HasParts, IsTypedRecord}
 use Rattle.codec.proofs.Formats.{IsFormat, ◌and_then◌, begins, begins_assoc, took, then_takes, then_again, last_again}
 use Rattle.codec.proofs.Steps.{bind_ok}
 use Rattle.farm_base.specs.Digests.{IsBytes}
 use Rattle.recordparts.proofs.Fields.{passed_ok, any64, home_format}
 use Rattle.lists.proofs.Rising.{Row, sorted-from_row, row-from_sorted}
-use Rattle.recordparts.proofs.Rows.{slot_tests, numbers-from_row, row-from_numbers}
-use Rattle.recordparts.proofs.EntryLaws.{list_format}
-use Rattle.recordparts.proofs.PartLaws.{node_key, life_key, slot_key, line_key, ticket_key, all_any, retired_node_format, node_life_format, retired_format, line_format, lease_bytes_in, lease_bytes-third, lease_format}
+use Rattle.recordlists.proofs.Rows.{slot_tests, numbers-from_row, row-from_numbers}
+use Rattle.recordlists.proofs.EntryLaws.{list_format}
+use Rattle.recordlists.proofs.PartLaws.{node_key, life_key, slot_key, line_key, ticket_key, all_any, retired_node_format, node_life_format, retired_format, line_format, lease_bytes_in, lease_bytes-third, lease_format}
 
 -- ---- the retired nodes
 

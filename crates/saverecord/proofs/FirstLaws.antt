@@ -17,19 +17,20 @@ use Rattle.recordparts.specs.declared.refusal.Flaw.TheVariants.{Relation}
 use Rattle.recordparts.specs.declared.refusal.RecordRefusal.{RecordRefusal}
 use Rattle.codec.specs.Steps.{◌>>=◌}
 use Rattle.recordparts.specs.Parts.{Gives}
-use Rattle.recordparts.specs.Entries.{is_above}
+use Rattle.recordlists.specs.Entries.{is_above}
 use Rattle.saverecord.specs.Records.{whole_body, layout_of, opened, place_for, has_life, with_life, with_home, from_first, judged, record_of}
-use Rattle.recordparts.specs.Relations.{no_two, tickets_up_to, lines_up_to, lives_there, clash, has_retired, is_same_private, fits_tenure, is_gone, is_above_lines}
+use Rattle.recordlists.specs.Relations.{no_two, tickets_up_to, lines_up_to, lives_there, clash, has_retired, is_same_private, fits_tenure, is_gone, is_above_lines}
 use Rattle.saverecord.specs.Relations.{fits_record, agrees, is_at_home}
 use Rattle.saverecord.specs.Spelling.{record_bytes}
-use Rattle.recordparts.specs.Fits.{IsNode, IsHome, IsNodeLife}
+use Rattle.recordparts.specs.Fits.{IsNode, IsHome}
+use Rattle.recordlists.specs.EntryFits.{IsNodeLife}
 use Rattle.saverecord.specs.Fits.{HasParts, IsRecord, IsTypedRecord}
 use Rattle.codec.proofs.Steps.{bind_ok}
 use Rattle.farm_base.specs.Digests.{IsBytes}
 use Rattle.recordparts.proofs.Fields.{passed_ok}
 use Rattle.lists.proofs.Rising.{Row}
-use Rattle.recordparts.proofs.Rows.{numbers-from_row, row-from_numbers}
-use Rattle.recordparts.proofs.PartLaws.{life_key}
+use Rattle.recordlists.proofs.Rows.{numbers-from_row, row-from_numbers}
+use Rattle.recordlists.proofs.PartLaws.{life_key}
 use Rattle.saverecord.proofs.BodyLaws.{whole_takes}
 use Rattle.saverecord.proofs.RecordLaws.{opened_takes, third_takes, third_again}
 

@@ -41,12 +41,13 @@ use Rattle.saverecord.specs.declared.record.Record.{Record}
 use Rattle.recordparts.specs.declared.refusal.Flaw.TheVariants.{Relation}
 use Rattle.recordparts.specs.declared.refusal.RecordRefusal.{RecordRefusal}
 use Rattle.recordparts.specs.declared.refusal.RecordRefusal.TheVariants.{NotCanonical}
-use Rattle.recordparts.specs.Fits.{IsNode, IsNodeLife, IsLease, IsSlotLine}
+use Rattle.recordparts.specs.Fits.{IsNode}
+use Rattle.recordlists.specs.EntryFits.{IsNodeLife, IsLease, IsSlotLine}
 use Rattle.saverecord.specs.Ledgers.{IsKept, HasInstances, blank, ledger_of}
 use Rattle.saverecord.specs.LogEntries.{IsLogEntry}
 use Rattle.saverecord.specs.Logs.{with_version, with_versions, without_one, without_all, ticket_of, are_newer, with_leases, with_lives, with_gone, with_retired, is_coherent, may_follow, changed, with_entry, is_open, some_retired, fits, IsAsked, IsReadable, folded_ledger}
 use Rattle.recordparts.specs.Parts.{Gives, passed}
-use Rattle.recordparts.specs.Relations.{no_two, lines_up_to, versions_up_to, clash, is_same_private, fits_tenure}
+use Rattle.recordlists.specs.Relations.{no_two, lines_up_to, versions_up_to, clash, is_same_private, fits_tenure}
 use Rattle.recordparts.proofs.Fields.{passed_ok}
 use Rattle.saverecord.proofs.KeptLemmas.{none_clash}
 use Rattle.saverecord.proofs.LedgerLemmas.{all_from_in, each_in, passes_from_in, none_from_in}

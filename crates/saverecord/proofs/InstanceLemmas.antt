@@ -19,7 +19,7 @@ use Rattle.recordparts.specs.declared.refusal.Flaw.TheVariants.{Range, Order, Tr
 use Rattle.recordparts.specs.declared.refusal.RecordRefusal.{RecordRefusal}
 use Rattle.recordparts.specs.Parts.{passed, number_at, flag_at, id_at, home_at}
 use Rattle.recordparts.specs.Slots.{mode_at, base_at, has_instance, slot_at, is_slot_above, slot_after}
-use Rattle.recordparts.specs.Entries.{Reader, each_at, counted_at, node_at, positive_at, ticket_after, ended_at, retired_node_at, retired_at, node_life_at, leased_at, tenure_at, lease_at, line_at, list_at}
+use Rattle.recordlists.specs.Entries.{Reader, each_at, counted_at, node_at, positive_at, ticket_after, ended_at, retired_node_at, retired_at, node_life_at, leased_at, tenure_at, lease_at, line_at, list_at}
 use Rattle.saverecord.specs.Records.{retired_nodes_at, body_at, whole_body, opened_by, opened, from_first, judged, record_of}
 use Rattle.saverecord.specs.LogEntries.{parts_at, whole_parts, entry_layout, entry_of}
 use Rattle.saverecord.specs.Relations.{agrees, is_at_home}

@@ -31,9 +31,10 @@ use Rattle.versions.specs.declared.lines.SlotLine.{SlotLine}
 use Rattle.versions.specs.Line.{IsLine}
 use Rattle.versions.specs.Lines.{line_at}
 use Rattle.saverecord.specs.declared.record.Record.{Record}
-use Rattle.recordparts.specs.Relations.{no_two, versions_up_to, shares, is_same_ask, clash, has_retired, is_same_private, is_tenured, some_shared, is_above_line}
+use Rattle.recordlists.specs.Relations.{no_two, versions_up_to, shares, is_same_ask, clash, has_retired, is_same_private, is_tenured, some_shared, is_above_line}
 use Rattle.saverecord.specs.Relations.{fits_record, agrees}
-use Rattle.recordparts.specs.Fits.{IsNode, IsHome, IsNodeLife, IsLease, IsVersion, IsSlotLine}
+use Rattle.recordparts.specs.Fits.{IsNode, IsHome}
+use Rattle.recordlists.specs.EntryFits.{IsNodeLife, IsLease, IsVersion, IsSlotLine}
 use Rattle.saverecord.specs.Fits.{HasParts}
 use Rattle.saverecord.specs.Ledgers.{IsKept, KeptIsRecord}
 use Rattle.saverecord.proofs.LedgerLemmas.{all_from_in, each_in, each_from_in, passes_from_in, none_from_in, life_in, line_in, same_ask}

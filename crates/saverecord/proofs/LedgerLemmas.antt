@@ -21,7 +21,7 @@ use Rattle.protocol.proofs.Leases.{flip_false}
 use Rattle.versions.specs.declared.lines.SlotLine.{SlotLine}
 use Rattle.versions.specs.Lines.{line_at}
 use Rattle.versions.proofs.Ordered.{Rise, line_at-place}
-use Rattle.recordparts.specs.Relations.{is_same_ask}
+use Rattle.recordlists.specs.Relations.{is_same_ask}
 use Rattle.holdings.specs.Lives.{life_at}
 
 -- ---- what holds of each element

@@ -23,12 +23,13 @@ use Rattle.saverecord.specs.LogEntries.{place_bytes, nodes_bytes, leases_bytes, 
 use Rattle.recordparts.specs.Parts.{Gives, passed}
 use Rattle.saverecord.specs.Records.{is_same, opened_by}
 use Rattle.recordparts.specs.Slots.{is_slot_above}
-use Rattle.recordparts.specs.Spelling.{counted, ticket_bytes, node_bytes, node_life_bytes, slot_bytes, line_bytes}
+use Rattle.recordparts.specs.Spelling.{slot_bytes}
+use Rattle.recordlists.specs.EntrySpelling.{counted, ticket_bytes, node_bytes, node_life_bytes, line_bytes}
 use Rattle.recordparts.proofs.Fields.{home_format, passed_ok, any64}
-use Rattle.recordparts.proofs.EntryLaws.{list_format}
-use Rattle.recordparts.proofs.PartLaws.{node_key, life_key, ended_key, slot_key, line_key, ticket_key, all_any, retired_node_format, node_life_format, ended_format, retired_format, line_format, lease_bytes_in, lease_bytes-third, lease_format}
+use Rattle.recordlists.proofs.EntryLaws.{list_format}
+use Rattle.recordlists.proofs.PartLaws.{node_key, life_key, ended_key, slot_key, line_key, ticket_key, all_any, retired_node_format, node_life_format, ended_format, retired_format, line_format, lease_bytes_in, lease_bytes-third, lease_format}
 use Rattle.saverecord.proofs.RecordLaws.{same_bytes, opened_takes, opened_again}
-use Rattle.recordparts.proofs.Rows.{slot_tests, numbers-from_row, row-from_numbers}
+use Rattle.recordlists.proofs.Rows.{slot_tests, numbers-from_row, row-from_numbers}
 
 -- ---- the parts
 

@@ -28,11 +28,12 @@ use Rattle.versions.proofs.Ordered.{Rise}
 use Rattle.saverecord.specs.declared.log_entry.LogEntry.{LogEntry}
 use Rattle.recordparts.specs.declared.refusal.Flaw.TheVariants.{Relation}
 use Rattle.recordparts.specs.declared.refusal.RecordRefusal.{RecordRefusal}
-use Rattle.recordparts.specs.Fits.{IsTicket, IsNode, IsNodeLife, IsLease, IsVersion, IsSlotLine}
+use Rattle.recordparts.specs.Fits.{IsNode}
+use Rattle.recordlists.specs.EntryFits.{IsTicket, IsNodeLife, IsLease, IsVersion, IsSlotLine}
 use Rattle.saverecord.specs.LogEntries.{entry_of, IsLogEntry}
 use Rattle.saverecord.specs.Logs.{Holds, Follows, IsChange, IsSaved, AreInOrder, is_ended, with_versions, without_one, without_all, ticket_of, are_newer, with_leases, with_lives, with_gone, is_coherent, may_follow, changed, with_entry, after_text}
 use Rattle.recordparts.specs.Parts.{passed}
-use Rattle.recordparts.specs.Relations.{versions_up_to}
+use Rattle.recordlists.specs.Relations.{versions_up_to}
 use Rattle.saverecord.specs.Texts.{Texts, with_text}
 use Rattle.saverecord.proofs.FoldLemmas.{entry_gives, lawful_agrees}
 use Rattle.saverecord.proofs.KeptLemmas.{home_fits, lease_folders, lease_is, own_folders, tenure_fits, tickets_rise}

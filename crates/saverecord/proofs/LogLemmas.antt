@@ -39,7 +39,7 @@ use Rattle.saverecord.specs.LogEntries.{entry_of}
 use Rattle.saverecord.specs.Logs.{Holds, Follows, with_version, with_versions, without_one, without_all, are_newer, with_leases, is_coherent, may_follow, changed, with_entry, after_text, with_entries, fits, agreed, ledger_in}
 use Rattle.recordparts.specs.Parts.{passed}
 use Rattle.saverecord.specs.Records.{opened_by, record_of}
-use Rattle.recordparts.specs.Relations.{no_two, clash}
+use Rattle.recordlists.specs.Relations.{no_two, clash}
 use Rattle.saverecord.specs.Texts.{Texts, whole_alone, with_text}
 use Rattle.recordparts.proofs.Fields.{passed_ok}
 use Rattle.saverecord.proofs.FoldLemmas.{followed, lawful_agrees}

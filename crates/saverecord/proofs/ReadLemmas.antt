@@ -32,9 +32,10 @@ use Rattle.versions.specs.declared.lines.SlotLine.{SlotLine}
 use Rattle.versions.specs.Line.{IsLine}
 use Rattle.versions.specs.Lines.{line_at}
 use Rattle.saverecord.specs.declared.record.Record.{Record}
-use Rattle.recordparts.specs.Relations.{no_two, versions_up_to, lines_up_to, tickets_up_to, lives_there, shares, is_same_ask, clash, has_retired, is_same_private, is_tenured, some_shared, fits_tenure, is_gone, is_above_line, is_above_lines}
+use Rattle.recordlists.specs.Relations.{no_two, versions_up_to, lines_up_to, tickets_up_to, lives_there, shares, is_same_ask, clash, has_retired, is_same_private, is_tenured, some_shared, fits_tenure, is_gone, is_above_line, is_above_lines}
 use Rattle.saverecord.specs.Relations.{fits_record, agrees}
-use Rattle.recordparts.specs.Fits.{IsNode, IsHome, IsNodeLife, IsLease, IsVersion, IsSlotLine}
+use Rattle.recordparts.specs.Fits.{IsNode, IsHome}
+use Rattle.recordlists.specs.EntryFits.{IsNodeLife, IsLease, IsVersion, IsSlotLine}
 use Rattle.saverecord.specs.Fits.{IsRecord}
 use Rattle.saverecord.specs.Ledgers.{ledger_of, IsKept, HasInstance, HasInstances, RecordIsKept}
 use Rattle.saverecord.proofs.LedgerLemmas.{all_from_in, each_in, life_in, life_from, line_from, same_ask}

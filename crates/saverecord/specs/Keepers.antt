@@ -1,7 +1,7 @@
 -- Who keeps the texts of a record, over saves and appends that may fail.
 use Rattle.std.specs.Prelude.{◌≡◌, ◌≢◌, ◌⊎◌, ℕ, ◌+◌, ◌<◌, Bool, not, is_some, Option, Some, None, min}
-use Rattle.protocol.specs.declared.answer.Kept.{Kept}
-use Rattle.protocol.specs.declared.answer.Kept.TheVariants.{Old, New}
+use Rattle.events.specs.declared.answer.Kept.{Kept}
+use Rattle.events.specs.declared.answer.Kept.TheVariants.{Old, New}
 use Rattle.saverecord.specs.Texts.{Texts}
 use Rattle.saverecord.specs.declared.refusal.KeeperRefusal.{KeeperRefusal}
 use Rattle.saverecord.specs.declared.refusal.KeeperRefusal.TheVariants.{Fault}

@@ -14,10 +14,12 @@ use Rattle.recordparts.specs.declared.refusal.Flaw.TheVariants.{Trailing}
 use Rattle.recordparts.specs.declared.refusal.RecordRefusal.{RecordRefusal}
 use Rattle.recordparts.specs.declared.refusal.RecordRefusal.TheVariants.{BadMagic}
 use Rattle.recordparts.specs.Parts.{Part, passed, number_at, home_at}
-use Rattle.recordparts.specs.Entries.{ended_at, retired_node_at, node_life_at, retired_at, lease_at, line_at, list_at}
+use Rattle.recordlists.specs.Entries.{ended_at, retired_node_at, node_life_at, retired_at, lease_at, line_at, list_at}
 use Rattle.saverecord.specs.Records.{is_same, opened_by}
-use Rattle.recordparts.specs.Spelling.{number64, counted, ticket_bytes, node_bytes, slot_bytes, node_life_bytes, lease_bytes, line_bytes, home_bytes}
-use Rattle.recordparts.specs.Fits.{IsTicket, IsNode, IsHome, IsNodeLife, IsLease, IsSlotLine, IsTypedTicket, IsTypedNode, IsTypedLife, IsTypedSlot, IsTypedLease, IsTypedLine, IsTypedList}
+use Rattle.recordparts.specs.Spelling.{number64, slot_bytes, home_bytes}
+use Rattle.recordlists.specs.EntrySpelling.{counted, ticket_bytes, node_bytes, node_life_bytes, lease_bytes, line_bytes}
+use Rattle.recordparts.specs.Fits.{IsNode, IsHome, IsTypedSlot}
+use Rattle.recordlists.specs.EntryFits.{IsTicket, IsNodeLife, IsLease, IsSlotLine, IsTypedTicket, IsTypedNode, IsTypedLife, IsTypedLease, IsTypedLine, IsTypedList}
 
 -- ---- the bytes
 

@@ -28,7 +28,7 @@ use Rattle.recordparts.specs.declared.refusal.RecordRefusal.TheVariants.{NotCano
 use Rattle.saverecord.specs.Ledgers.{ledger_of, record_in}
 use Rattle.saverecord.specs.LogEntries.{entry_of}
 use Rattle.recordparts.specs.Parts.{passed}
-use Rattle.recordparts.specs.Relations.{no_two, lines_up_to, clash, is_same_private, fits_tenure}
+use Rattle.recordlists.specs.Relations.{no_two, lines_up_to, clash, is_same_private, fits_tenure}
 use Rattle.saverecord.specs.Texts.{Texts}
 
 -- ---- an entry

@@ -16,7 +16,7 @@ use Rattle.recordparts.specs.Layouts.{has_retired_nodes}
 use Rattle.codec.specs.Steps.{◌>>=◌}
 use Rattle.recordparts.specs.Parts.{Part, passed, number_at, home_at}
 use Rattle.saverecord.specs.Relations.{agrees, is_at_home}
-use Rattle.recordparts.specs.Entries.{list_at, retired_node_at, node_life_at, retired_at, lease_at, line_at}
+use Rattle.recordlists.specs.Entries.{list_at, retired_node_at, node_life_at, retired_at, lease_at, line_at}
 
 -- the retired nodes, where the layout has them
 unfoldable pub retired_nodes_at : Layout → List ℕ → Part (List NodeId)

@@ -1,7 +1,8 @@
 -- The one spelling of a record, of version 3.
 use Rattle.std.specs.Prelude.{ℕ, List, ◌++◌, codes}
 use Rattle.sha2.specs.Sha256.{sha256}
-use Rattle.recordparts.specs.Spelling.{number64, counted, node_bytes, node_life_bytes, slot_bytes, lease_bytes, line_bytes, home_bytes}
+use Rattle.recordparts.specs.Spelling.{number64, slot_bytes, home_bytes}
+use Rattle.recordlists.specs.EntrySpelling.{counted, node_bytes, node_life_bytes, lease_bytes, line_bytes}
 use Rattle.saverecord.specs.declared.record.Record.{Record}
 
 -- last ticket and old home

@@ -12,7 +12,8 @@ ghost use Rattle.versions.specs.Lines.{line_at};
 use super::record::Record;
 use farm_base::{Items, Lease, NodeId, Slot, Ticket};
 use holdings::{Lives, RetiredNodes, is_saved, rising};
-use recordparts::{Flaw, RecordRefusal, are_apart};
+use recordlists::are_apart;
+use recordparts::{Flaw, RecordRefusal};
 use std::alloc::Global;
 use versions::Lines;
 

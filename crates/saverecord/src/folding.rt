@@ -18,7 +18,8 @@ use super::log_entry::LogEntry;
 use super::record::Record;
 use farm_base::{Items, Lease, NodeId, NodeLife, Slot, Ticket};
 use holdings::{Lives, RetiredNodes, is_saved, place_of};
-use recordparts::{Flaw, RecordRefusal, are_of_own_folders, are_private, fits_tenure, lines_up_to};
+use recordlists::{are_of_own_folders, are_private, fits_tenure, lines_up_to};
+use recordparts::{Flaw, RecordRefusal};
 use std::alloc::{AllocError, Global};
 use versions::{Lines, SlotLine};
 

@@ -6,7 +6,7 @@ ghost use Rattle.saverecord.specs.Texts.{Texts, whole_alone, with_text};
 
 use super::log::Log;
 use super::refusal::{KeeperRefusal, SaveFault};
-use protocol::Kept;
+use events::Kept;
 use std::alloc::{AllocError, Global};
 use std::marker::Model;
 

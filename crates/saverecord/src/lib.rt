@@ -13,11 +13,11 @@ mod refusal;
 mod relation;
 mod writing;
 
+pub use events::Kept;
 pub use farm_base::NodeLife;
 pub use keeper::{Keeper, MemoryKeeper};
 pub use log::Log;
 pub use log_entry::LogEntry;
-pub use protocol::Kept;
 pub use record::Record;
 pub use recordparts::{Flaw, RecordRefusal};
 pub use refusal::{KeeperRefusal, SaveFault};

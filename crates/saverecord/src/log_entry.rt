@@ -1,15 +1,15 @@
 //! An entry of a log, and its bytes.
 ghost use Rattle.std.specs.Prelude.{◌≡◌, ◌<◌, ◌^◌, ◌++◌, OnOk, IfOk, Ok};
-ghost use Rattle.recordparts.specs.Fits.{IsTypedList, IsTypedTicket, IsTypedNode, IsTypedLife, IsTypedSlot, IsTypedLease, IsTypedLine};
+ghost use Rattle.recordparts.specs.Fits.{IsTypedSlot};
+ghost use Rattle.recordlists.specs.EntryFits.{IsTypedList, IsTypedTicket, IsTypedNode, IsTypedLife, IsTypedLease, IsTypedLine};
 ghost use Rattle.saverecord.specs.LogEntries.{IsLogEntry, IsTypedLogEntry, place_bytes, nodes_bytes, leases_bytes, slots_bytes, entry_bytes, parts_at, whole_parts, entry_layout, entry_of};
 ghost use Rattle.recordparts.specs.Parts.{Gives};
 ghost use Rattle.saverecord.specs.Records.{opened_by};
 
 use super::reading::signed;
 use farm_base::{Items, Lease, NodeId, NodeLife, Slot, Ticket};
-use recordparts::{
-    Flaw, Layout, RecordRefusal, put_counted, put_home, take_home, take_list, take_u64,
-};
+use recordlists::{put_counted, take_list};
+use recordparts::{Flaw, Layout, RecordRefusal, put_home, take_home, take_u64};
 use sha2::Sha256;
 use std::alloc::{AllocError, Global};
 use versions::SlotLine;

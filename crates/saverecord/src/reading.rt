@@ -10,7 +10,8 @@ use super::record::Record;
 use super::relation::{agrees, is_at_home};
 use super::writing::MAGIC;
 use farm_base::{Items, Life, NodeId, NodeLife, Ticket};
-use recordparts::{Flaw, Layout, RecordRefusal, take_home, take_list, take_u64};
+use recordlists::take_list;
+use recordparts::{Flaw, Layout, RecordRefusal, take_home, take_u64};
 use sha2::Sha256;
 use std::alloc::{AllocError, Global};
 

@@ -5,7 +5,7 @@ ghost use Rattle.saverecord.specs.Relations.{fits_record, agrees, is_at_home};
 
 use super::record::Record;
 use farm_base::Lease;
-use recordparts::{
+use recordlists::{
     are_apart, are_of_own_folders, are_private, fits_tenure, has_retired, is_above_lines, is_gone,
     is_home, lines_up_to, lives_there, tickets_up_to,
 };

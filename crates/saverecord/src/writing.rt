@@ -1,12 +1,14 @@
 //! Writing a record.
 ghost use Rattle.std.specs.Prelude.{◌≡◌, ◌<◌, ◌^◌, ◌++◌, OnOk, IfOk, Ok};
-ghost use Rattle.recordparts.specs.Fits.{IsTypedList, IsTypedNode, IsTypedLife, IsTypedSlot, IsTypedLease, IsTypedLine};
+ghost use Rattle.recordparts.specs.Fits.{IsTypedSlot};
+ghost use Rattle.recordlists.specs.EntryFits.{IsTypedList, IsTypedNode, IsTypedLife, IsTypedLease, IsTypedLine};
 ghost use Rattle.saverecord.specs.Fits.{IsRecord, IsTypedRecord};
 ghost use Rattle.saverecord.specs.Records.{record_of};
 ghost use Rattle.saverecord.specs.Spelling.{first_bytes, nodes_bytes, slots_bytes, record_bytes};
 
 use super::record::Record;
-use recordparts::{put_counted, put_home};
+use recordlists::put_counted;
+use recordparts::put_home;
 use sha2::Sha256;
 use std::alloc::{AllocError, Global};
 

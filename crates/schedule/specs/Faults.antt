@@ -7,7 +7,7 @@ use Rattle.farm_base.specs.declared.want.Want.{Want}
 use Rattle.farm_base.specs.Folders.{folder_eq}
 use Rattle.farm_base.specs.Slots.{slot_cmp}
 use Rattle.farm_base.specs.Wanted.{folders}
-use Rattle.protocol.specs.declared.event.Event.{Event}
+use Rattle.events.specs.declared.event.Event.{Event}
 use Rattle.words.specs.Words.{words, want_text, IsWant}
 use Rattle.schedule.specs.declared.fault.FormFault.{FormFault}
 use Rattle.schedule.specs.declared.fault.FormFault.TheVariants.{BadWord, ExtraWord, MissingWord, TooManyFolders, SameFolderTwice, SlotsDontRise}

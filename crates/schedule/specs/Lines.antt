@@ -10,10 +10,10 @@ use Rattle.farm_base.specs.declared.want.Want.{Want}
 use Rattle.farm_base.specs.Names.{folder_text, slot_text, IsName, IsSlot}
 use Rattle.farm_base.specs.Slots.{SlotParts, slot_cmp}
 use Rattle.words.specs.Words.{node_text, ticket_text, digits_text, want_text, slot_with, IsNode, IsTicket, AreWants}
-use Rattle.protocol.specs.declared.answer.Kept.{Kept}
-use Rattle.protocol.specs.declared.answer.Kept.TheVariants.{Old, New}
-use Rattle.protocol.specs.declared.event.Event.{Event}
-use Rattle.protocol.specs.declared.event.Event.TheVariants.{Ask, Tenure, Deliver, Begin, Finish, Abort, Resend, Nudge, Withdraw, Prune, Retire, RestartNode, RestartCoordinator, Forge, Forget, FailSave}
+use Rattle.events.specs.declared.answer.Kept.{Kept}
+use Rattle.events.specs.declared.answer.Kept.TheVariants.{Old, New}
+use Rattle.events.specs.declared.event.Event.{Event}
+use Rattle.events.specs.declared.event.Event.TheVariants.{Ask, Tenure, Deliver, Begin, Finish, Abort, Resend, Nudge, Withdraw, Prune, Retire, RestartNode, RestartCoordinator, Forge, Forget, FailSave}
 
 -- ---- words
 

@@ -5,12 +5,12 @@ use Rattle.farm_base.specs.declared.message.Grant.{Grant}
 use Rattle.farm_base.specs.declared.message.GrantedSlot.{GrantedSlot}
 use Rattle.farm_base.specs.Names.{slot_text}
 use Rattle.words.specs.Words.{why_text}
-use Rattle.protocol.specs.declared.answer.CoordNote.{CoordNote}
-use Rattle.protocol.specs.declared.answer.CoordNote.TheVariants as coord
-use Rattle.protocol.specs.declared.answer.NodeNote.{NodeNote}
-use Rattle.protocol.specs.declared.answer.NodeNote.TheVariants as node
-use Rattle.protocol.specs.declared.answer.EventNote.{EventNote}
-use Rattle.protocol.specs.declared.answer.EventNote.TheVariants as event
+use Rattle.events.specs.declared.answer.CoordNote.{CoordNote}
+use Rattle.events.specs.declared.answer.CoordNote.TheVariants as coord
+use Rattle.events.specs.declared.answer.NodeNote.{NodeNote}
+use Rattle.events.specs.declared.answer.NodeNote.TheVariants as node
+use Rattle.events.specs.declared.answer.EventNote.{EventNote}
+use Rattle.events.specs.declared.answer.EventNote.TheVariants as event
 
 -- ` SLOT=BASE`
 abbrev pub granted_text : GrantedSlot → List ℕ

@@ -5,8 +5,8 @@ use Rattle.hex.specs.Hex.{encode_lower}
 use Rattle.farm_base.specs.declared.message.LineVersion.{LineVersion}
 use Rattle.farm_base.specs.Names.{slot_text}
 use Rattle.farm_base.specs.Slots.{SlotParts}
-use Rattle.protocol.specs.declared.answer.Outcome.{Outcome}
-use Rattle.protocol.specs.declared.answer.EventRefusal.{EventRefusal}
+use Rattle.events.specs.declared.answer.Outcome.{Outcome}
+use Rattle.events.specs.declared.answer.EventRefusal.{EventRefusal}
 use Rattle.schedule.specs.Notes.{note_text}
 use Rattle.schedule.specs.RefusalNames.{refusal_text}
 

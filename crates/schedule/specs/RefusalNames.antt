@@ -1,11 +1,11 @@
 -- The name of each refusal of an event.
 use Rattle.std.specs.Prelude.{ℕ, List, codes}
-use Rattle.protocol.specs.declared.answer.CoordRefusal.{CoordRefusal}
-use Rattle.protocol.specs.declared.answer.CoordRefusal.TheVariants as coord
-use Rattle.protocol.specs.declared.answer.NodeRefusal.{NodeRefusal}
-use Rattle.protocol.specs.declared.answer.NodeRefusal.TheVariants as node
-use Rattle.protocol.specs.declared.answer.EventRefusal.{EventRefusal}
-use Rattle.protocol.specs.declared.answer.EventRefusal.TheVariants as event
+use Rattle.events.specs.declared.answer.CoordRefusal.{CoordRefusal}
+use Rattle.events.specs.declared.answer.CoordRefusal.TheVariants as coord
+use Rattle.events.specs.declared.answer.NodeRefusal.{NodeRefusal}
+use Rattle.events.specs.declared.answer.NodeRefusal.TheVariants as node
+use Rattle.events.specs.declared.answer.EventRefusal.{EventRefusal}
+use Rattle.events.specs.declared.answer.EventRefusal.TheVariants as event
 
 -- of the coordinator
 abbrev pub coord_refusal_text : CoordRefusal → List ℕ

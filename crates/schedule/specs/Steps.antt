@@ -1,6 +1,6 @@
 -- How the lines of events are read, one after the other.
 use Rattle.std.specs.Prelude.{◌≡◌, ◌≢◌, ℕ, ◌+◌, ◌<◌, ◌≤◌, List, [], ◌∷◌, ◌++◌, length}
-use Rattle.protocol.specs.declared.event.Event.{Event}
+use Rattle.events.specs.declared.event.Event.{Event}
 use Rattle.schedule.specs.declared.refusal.ScheduleRefusal.{ScheduleRefusal}
 use Rattle.schedule.specs.declared.refusal.ScheduleRefusal.TheVariants.{BadLine, TooManyEvents, OutOfMemory, TooLarge}
 use Rattle.schedule.specs.Lines.{IsSpelled}

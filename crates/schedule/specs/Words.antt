@@ -12,9 +12,9 @@ use Rattle.farm_base.specs.declared.number.Ticket.{Ticket}
 use Rattle.farm_base.specs.declared.want.Want.{Want}
 use Rattle.farm_base.specs.Names.{folder_text, slot_text, IsName, IsSlot}
 use Rattle.farm_base.specs.Slots.{SlotParts, slot_cmp}
-use Rattle.protocol.specs.declared.answer.Kept.{Kept}
-use Rattle.protocol.specs.declared.event.Event.{Event}
-use Rattle.protocol.specs.declared.event.Event.TheVariants as event
+use Rattle.events.specs.declared.answer.Kept.{Kept}
+use Rattle.events.specs.declared.event.Event.{Event}
+use Rattle.events.specs.declared.event.Event.TheVariants as event
 use Rattle.words.specs.Words.{SpellGiven, node_text, ticket_text, digits_text, IsNode, IsTicket}
 use Rattle.schedule.specs.declared.verb.Verb.{Verb}
 use Rattle.schedule.specs.declared.verb.Verb.TheVariants.{Ask, Tenure, Deliver, Begin, Finish, Abort, Resend, Restart, Forge, Forget, Nudge, Withdraw, Prune, Retire, Fail}

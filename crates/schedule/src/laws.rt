@@ -1,6 +1,6 @@
 //! Laws of lines and schedules.
 ghost use Rattle.std.specs.Prelude.{◌≡◌, ◌≢◌, ℕ, List};
-ghost use Rattle.protocol.specs.declared.event.Event.{Event};
+ghost use Rattle.events.specs.declared.event.Event.{Event};
 ghost use Rattle.schedule.specs.declared.setup.Setup.{Setup};
 ghost use Rattle.schedule.specs.declared.refusal.ScheduleRefusal.{ScheduleRefusal};
 ghost use Rattle.schedule.specs.Forms.{IsOfForm};

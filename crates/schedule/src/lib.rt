@@ -16,11 +16,11 @@ mod verb;
 mod word;
 mod word_fault;
 
+pub use events::Event;
 pub use fault::{FormFault, LineFault, Spacing, WordFault};
 pub use line_fault::fault_of;
 pub use note::print_note;
 pub use outcome::print_outcome;
-pub use protocol::Event;
 pub use reading::read_schedule;
 pub use refusal::ScheduleRefusal;
 pub use refusal_names::refusal_name;

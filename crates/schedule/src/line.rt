@@ -3,16 +3,16 @@ ghost use Rattle.std.specs.Prelude.{◌≡◌, ◌≢◌, List, map, IfOk};
 ghost use Rattle.std.specs.List.{All, IsAllAdjacentAnswer};
 ghost use Rattle.std.specs.Ordering.{is_lt};
 ghost use Rattle.farm_base.specs.Slots.{slot_cmp};
-ghost use Rattle.protocol.specs.declared.event.Event.{Event};
+ghost use Rattle.events.specs.declared.event.Event.{Event};
 ghost use Rattle.words.specs.Words.{texts, words};
 ghost use Rattle.schedule.specs.Lines.{left_text, IsLeft, Left, IsSpelled};
 ghost use Rattle.schedule.specs.Words.{SpellLefts, Says, SpelledBy};
 
 use super::verb::{Verb, verb_of};
 use super::word::{bytes_of, kept_of, left_of};
+use events::Event;
 use farm_base::reading::number;
 use farm_base::{Content, Items, Left, Mode};
-use protocol::Event;
 use std::alloc::Global;
 use words::{
     ReadRefusal, digest_of, folder_of, given_wants, node_of, slot_of, ticket_of, words_of,

@@ -1,6 +1,6 @@
 //! What is wrong with a line that can't be read.
 ghost use Rattle.std.specs.Prelude.{◌≡◌, [], Contains, ◌↔◌, IsTrue, IfOk, IfSome};
-ghost use Rattle.protocol.specs.declared.event.Event.{Event};
+ghost use Rattle.events.specs.declared.event.Event.{Event};
 ghost use Rattle.words.specs.Words.{texts, words};
 ghost use Rattle.schedule.specs.declared.fault.Spacing.{Spacing};
 ghost use Rattle.schedule.specs.Faults.{IsRead, IsFormFault, IsWordsFault, IsMisspaced, IsSpacing, IsLineFault, IsFaultOf};

@@ -4,8 +4,8 @@ ghost use Rattle.std.specs.String.{string_bytes};
 ghost use Rattle.words.specs.Words.{why_text};
 ghost use Rattle.schedule.specs.Notes.{granted_text, grant_text, coord_note_text, node_note_text, note_text};
 
+use events::{CoordNote, EventNote, NodeNote};
 use farm_base::{Grant, GrantedSlot, Why};
-use protocol::{CoordNote, EventNote, NodeNote};
 use std::alloc::{AllocError, Global};
 use words::why_name;
 

@@ -4,7 +4,7 @@ ghost use Rattle.schedule.specs.Printing.{sent_text, answer_text, outcome_text};
 
 use super::note::{push_note, push_number};
 use super::refusal_names::refusal_name;
-use protocol::{EventRefusal, Outcome};
+use events::{EventRefusal, Outcome};
 use std::alloc::{AllocError, Global};
 
 /// Adds the numbers of the messages that were sent. The last number may be above every `u64`.

@@ -8,9 +8,9 @@ ghost use Rattle.schedule.specs.Steps.{AddsLine, AreRefused, IsLineRefused};
 use super::line::event_of;
 use super::refusal::{ScheduleRefusal, refusal_at};
 use super::setup::Setup;
+use events::Event;
 use farm_base::reading::{after, number};
 use farm_base::{EVENTS, NODES};
-use protocol::Event;
 use std::alloc::Global;
 
 /// The greatest size of a text: 16 MiB.

@@ -1,7 +1,7 @@
 ghost use Rattle.std.specs.Prelude.{◌≡◌};
 ghost use Rattle.schedule.specs.RefusalNames.{coord_refusal_text, node_refusal_text, refusal_text};
 
-use protocol::{CoordRefusal, EventRefusal, NodeRefusal};
+use events::{CoordRefusal, EventRefusal, NodeRefusal};
 
 fn coord_name(refusal: CoordRefusal) -> &'static str
     ensures { result.now ≡ coord_refusal_text refusal }

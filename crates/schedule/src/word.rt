@@ -2,12 +2,12 @@
 ghost use Rattle.std.specs.Prelude.{◌≡◌, ◌≢◌, ℕ, ◌<◌, List, IfOk, IfSome, IfNone};
 ghost use Rattle.std.specs.List.{list_any};
 ghost use Rattle.std.specs.Char.{is_ascii_uppercase};
-ghost use Rattle.protocol.specs.declared.answer.Kept.{Kept};
+ghost use Rattle.events.specs.declared.answer.Kept.{Kept};
 ghost use Rattle.hex.specs.Hex.{IsBytes, encode_lower};
 ghost use Rattle.schedule.specs.Lines.{kept_text, left_text, IsLeft, Left};
 
+use events::Kept;
 use farm_base::{Content, Left, are_bytes};
-use protocol::Kept;
 use std::alloc::Global;
 use words::{ReadRefusal, last_split, slot_of};
 

@@ -5,7 +5,7 @@ use Rattle.std.specs.declared.alloc.AllocError.{AllocError}
 use Rattle.std.specs.declared.alloc.Global.{Global}
 use Rattle.std.specs.declared.string.String.{String}
 use Rattle.std.specs.Io.KnownBytes.{Appends}
-use Rattle.protocol.specs.declared.answer.CoordRefusal.{CoordRefusal}
+use Rattle.events.specs.declared.answer.CoordRefusal.{CoordRefusal}
 use Rattle.schedule.specs.RefusalNames.{coord_refusal_text}
 use Rattle.services.specs.declared.lost.Lost.{Lost}
 use Rattle.services.specs.declared.settled.Settled.{Settled}

@@ -1,4 +1,4 @@
-use protocol::CoordRefusal;
+use events::CoordRefusal;
 
 /// Whether what was answered lasts.
 #[derive(Clone, Copy)]

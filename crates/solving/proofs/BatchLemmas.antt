@@ -13,8 +13,9 @@ use Rattle.protocol.specs.Names.{is_shared}
 use Rattle.folders.specs.declared.edit.Edit.{Edit}
 use Rattle.executions.specs.declared.refusal.SharedRefusal.{SharedRefusal}
 use Rattle.executions.specs.declared.refusal.SharedRefusal.TheVariants as refusal
-use Rattle.executions.specs.Left.{FolderEdits}
-use Rattle.executions.specs.Live.{Live, Applies, batch}
+use Rattle.slotfolders.specs.Left.{FolderEdits}
+use Rattle.slotfolders.specs.Batches.{batch}
+use Rattle.executions.specs.Live.{Live, Applies}
 use Rattle.solving.specs.Batches.{batches_of, with_batches}
 
 -- those of two lists of edits

@@ -3,10 +3,11 @@ use Rattle.std.specs.Prelude.{◌≡◌, true, Err, List, ◌∷◌, map, filter
 use Rattle.farm_base.specs.declared.digest.Key.{Key}
 use Rattle.farm_base.specs.declared.number.Ticket.{Ticket}
 use Rattle.protocol.specs.Names.{is_shared}
-use Rattle.executions.specs.declared.batch.Batch.{Batch}
+use Rattle.slotfolders.specs.declared.batch.Batch.{Batch}
 use Rattle.executions.specs.declared.refusal.SharedRefusal.{SharedRefusal}
-use Rattle.executions.specs.Left.{FolderEdits}
-use Rattle.executions.specs.Live.{Live, Applies, batch}
+use Rattle.slotfolders.specs.Left.{FolderEdits}
+use Rattle.slotfolders.specs.Batches.{batch}
+use Rattle.executions.specs.Live.{Live, Applies}
 use Rattle.solving.specs.declared.fault.FarmFault.{FarmFault}
 use Rattle.solving.specs.Faults.{of_edits}
 

@@ -1,9 +1,9 @@
 -- What the schedule of a run says when it is replayed (this project's own).
 use Rattle.std.specs.Prelude.{◌≡◌, ℕ, List}
-use Rattle.protocol.specs.declared.event.Event.{Event}
+use Rattle.events.specs.declared.event.Event.{Event}
 use Rattle.schedule.specs.declared.setup.Setup.{Setup}
-use Rattle.farmboard.specs.Counts.{counts_of}
-use Rattle.farmboard.specs.Replays.{replayed}
+use Rattle.farmhistory.specs.Counts.{counts_of}
+use Rattle.farmhistory.specs.Replays.{replayed}
 
 -- no event is refused
 abbrev pub RefusesNone : Setup → List Event → Type 0

@@ -1,16 +1,16 @@
 -- The faults of a run (this project's own).
 use Rattle.std.specs.Prelude.{Bool, true, false}
 use Rattle.farm_base.specs.declared.digest.Key.{Key}
-use Rattle.protocol.specs.declared.answer.EventRefusal.{EventRefusal}
-use Rattle.protocol.specs.declared.answer.EventRefusal.TheVariants as event
-use Rattle.farmboard.specs.declared.refusal.BoardRefusal.{BoardRefusal}
-use Rattle.farmboard.specs.declared.refusal.BoardRefusal.TheVariants as board
+use Rattle.events.specs.declared.answer.EventRefusal.{EventRefusal}
+use Rattle.events.specs.declared.answer.EventRefusal.TheVariants as event
+use Rattle.farmhistory.specs.declared.refusal.BoardRefusal.{BoardRefusal}
+use Rattle.farmhistory.specs.declared.refusal.BoardRefusal.TheVariants as board
 use Rattle.world.specs.declared.world.StartRefusal.{StartRefusal}
 use Rattle.world.specs.declared.world.StartRefusal.TheVariants as start
 use Rattle.jobs.specs.declared.answer.JobsRefusal.{JobsRefusal}
 use Rattle.jobs.specs.declared.answer.JobsRefusal.TheVariants as jobs
-use Rattle.executions.specs.declared.refusal.RunRefusal.{RunRefusal}
-use Rattle.executions.specs.declared.refusal.RunRefusal.TheVariants as run
+use Rattle.slotfolders.specs.declared.refusal.RunRefusal.{RunRefusal}
+use Rattle.slotfolders.specs.declared.refusal.RunRefusal.TheVariants as run
 use Rattle.executions.specs.declared.refusal.SharedRefusal.{SharedRefusal}
 use Rattle.executions.specs.declared.refusal.SharedRefusal.TheVariants as shared
 use Rattle.solving.specs.declared.fault.FarmFault.{FarmFault}

@@ -8,7 +8,7 @@ use Rattle.farm_base.specs.declared.want.Want.{Want}
 use Rattle.folders.specs.Files.{Files}
 use Rattle.vertices.specs.Edges.{list_at}
 use Rattle.cachemounts.specs.CacheWants.{AreWants}
-use Rattle.jobs.specs.declared.entry.Task.{Task}
+use Rattle.jobs.specs.declared.task.Task.{Task}
 use Rattle.solving.specs.declared.work.Place.{Place}
 
 -- a vertex of a graph, which has the key there

@@ -1,6 +1,6 @@
 //! The answers of the jobs.
 ghost use Rattle.std.specs.Prelude.{◌≡◌, ◌≢◌, All, IfOk, Some, length, slice_get};
-ghost use Rattle.jobs.specs.Causes.{IsCause};
+ghost use Rattle.keytable.specs.Causes.{IsCause};
 
 use super::fault::FarmFault;
 use super::faults::jobs_fault;

@@ -1,6 +1,6 @@
 //! What a run of one executor leaves.
+use events::Event;
 use jobs::Answer;
-use protocol::Event;
 
 /// What a run of one executor leaves.
 #[derive(Drop)]

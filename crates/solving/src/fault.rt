@@ -3,33 +3,41 @@ ghost use Rattle.solving.specs.declared.fault.FarmFault.TheVariants.{Memory};
 
 use farm_base::Key;
 use std::alloc::{AllocError, AllocFailed};
+use std::fmt;
 use thiserror::Error;
 
 /// Why a run of a farm ended without its answers.
 #[derive(Clone, Copy, Debug, PartialEq, Eq, Error)]
 pub enum FarmFault {
-    #[error("the schedule has 65,536 events")]
     HistoryFull,
     /// An event was refused, or something that was sent for never came.
-    #[error("the farm lost a receipt")]
     ReceiptLost,
     /// What the executor left for this key, or what its execution began from, can't be kept.
-    #[error("an outcome that can't be kept")]
     BadOutcome(Key),
-    #[error("out of memory")]
     Memory,
     /// The number of nodes is out of range, or a job has no node or no executor.
-    #[error("a job without its node, or nodes out of range")]
     BadSetup,
-    #[error("the coordinator doesn't restart")]
     CoordinatorDown,
-    #[error("nothing is left that could go on")]
     Stalled,
     /// The gate never let the execution of this key pass.
-    #[error("the gate holds an execution")]
     GateHeld(Key),
-    #[error("a thread could not be started")]
     NoThread,
+}
+
+impl fmt::Display for FarmFault {
+    fn fmt<W: fmt::Write>(&self, f: &mut fmt::Formatter<W>) -> fmt::Result {
+        f.write_str(match self {
+            FarmFault::HistoryFull => "the schedule has 65,536 events",
+            FarmFault::ReceiptLost => "the farm lost a receipt",
+            FarmFault::BadOutcome(_) => "an outcome that can't be kept",
+            FarmFault::Memory => "out of memory",
+            FarmFault::BadSetup => "a job without its node, or nodes out of range",
+            FarmFault::CoordinatorDown => "the coordinator doesn't restart",
+            FarmFault::Stalled => "nothing is left that could go on",
+            FarmFault::GateHeld(_) => "the gate holds an execution",
+            FarmFault::NoThread => "a thread could not be started",
+        })
+    }
 }
 
 impl From<AllocError> for FarmFault {

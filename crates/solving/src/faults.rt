@@ -3,11 +3,11 @@ ghost use Rattle.std.specs.Prelude.{◌≡◌};
 ghost use Rattle.solving.specs.Faults.{of_board, of_start, of_jobs, of_run, of_edits, of_shared};
 
 use super::fault::FarmFault;
+use events::EventRefusal;
 use executions::{RunRefusal, SharedRefusal};
 use farm_base::Key;
 use farmboard::BoardRefusal;
 use jobs::JobsRefusal;
-use protocol::EventRefusal;
 use world::StartRefusal;
 
 /// What a refusal of the board ends a run with.

@@ -4,21 +4,22 @@ use Rattle.std.specs.Prelude.{not, is_some}
 use Rattle.protocol.specs.Machine.{Message, FromCoord, Told}
 use Rattle.protocol.specs.Ledger.{Work, saves, reads}
 use Rattle.protocol.specs.Replay.{Farm, Turn, coordinated, settled, refused, done}
-use Rattle.protocol.specs.declared.answer.Kept.{Kept}
-use Rattle.protocol.specs.declared.answer.Kept.TheVariants.{Old, New}
-use Rattle.protocol.specs.declared.answer.CoordRefusal.{CoordRefusal}
-use Rattle.protocol.specs.declared.answer.CoordRefusal.TheVariants as coord
-use Rattle.protocol.specs.declared.answer.EventNote.TheVariants as note
-use Rattle.protocol.specs.declared.answer.EventRefusal.TheVariants as refusal
-use Rattle.protocol.specs.declared.answer.Outcome.{Outcome}
+use Rattle.events.specs.declared.answer.Kept.{Kept}
+use Rattle.events.specs.declared.answer.Kept.TheVariants.{Old, New}
+use Rattle.events.specs.declared.answer.CoordRefusal.{CoordRefusal}
+use Rattle.events.specs.declared.answer.CoordRefusal.TheVariants as coord
+use Rattle.events.specs.declared.answer.EventNote.TheVariants as note
+use Rattle.events.specs.declared.answer.EventRefusal.TheVariants as refusal
+use Rattle.events.specs.declared.answer.Outcome.{Outcome}
 use Rattle.saverecord.specs.Keepers.{Memory, saved_by, MemorySaves, MemoryLoads}
 use Rattle.saverecord.specs.Logs.{saved_in}
 use Rattle.saverecord.specs.Texts.{Texts}
-use Rattle.coordinator.specs.declared.handled.Handled.{Handled}
+use Rattle.ledger.specs.declared.handled.Handled.{Handled}
 use Rattle.coordinator.specs.Held.{ledger}
 use Rattle.coordinator.specs.Seen.{Seen}
-use Rattle.coordinator.specs.Settling.{Answers, Settles, SettlesWhile, SavesIf, Does, Fails, Restarts}
-use Rattle.coordinator.proofs.Records.{held_in}
+use Rattle.coordinator.specs.Settling.{Settles, SettlesWhile, Restarts}
+use Rattle.ledger.specs.Settling.{Answers, SavesIf, Does, Fails}
+use Rattle.ledger.proofs.Records.{held_in}
 use Rattle.world.specs.Turns.{Came, first_number, from_coordinator}
 use Rattle.world.specs.Parts.{with_coordinator}
 use Rattle.world.proofs.TurnLemmas.{worked_as}

@@ -4,11 +4,11 @@ use Rattle.farm_base.specs.Contents.{content_digest}
 use Rattle.protocol.specs.Machine.{slots_of, written}
 use Rattle.protocol.specs.Names.{Ticket, Want, Shared, slots_eq, digest_eq, tenure_wants}
 use Rattle.protocol.specs.World.{Node, keep, without}
-use Rattle.protocol.specs.declared.ask.KeptAsk.TheVariants.{Running}
+use Rattle.events.specs.declared.ask.KeptAsk.TheVariants.{Running}
 use Rattle.protocol.specs.Nodes.{Place, Left, HeldGrant, NodeWork, NodeAnswer, guard, first, held, running, held_or_running, at_home, is_tenure_of, opens, beginning, becomes, all_stored, in_use, news_of, finishing, leaving, gives_up, aborting, is_stored, is_base, needs, brought, nothing, unless_spent}
-use Rattle.protocol.specs.declared.answer.NodeRefusal.{NodeRefusal}
-use Rattle.protocol.specs.declared.answer.NodeRefusal.TheVariants as refusal
-use Rattle.protocol.specs.declared.answer.NodeNote.TheVariants as note
+use Rattle.events.specs.declared.answer.NodeRefusal.{NodeRefusal}
+use Rattle.events.specs.declared.answer.NodeRefusal.TheVariants as refusal
+use Rattle.events.specs.declared.answer.NodeNote.TheVariants as note
 use Rattle.protocol.specs.Farm.{farm_limits}
 use Rattle.std.specs.List.{list_any}
 use Rattle.nodecore.specs.declared.message.NodeDone.{NodeDone}

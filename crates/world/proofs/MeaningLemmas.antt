@@ -15,15 +15,15 @@ use Rattle.protocol.specs.Follows.{Shows, EveryEventIsMoves, MayBeGranted, after
 use Rattle.protocol.specs.Chronicle.{AsksAreAnswered, EveryAskIsAnswered, FittingMessageIsGranted, NoParkedAskCouldBeGranted}
 use Rattle.protocol.specs.Meaning.{Means}
 use Rattle.protocol.specs.Reasons.{Fair}
-use Rattle.protocol.specs.declared.answer.Kept.{Kept}
-use Rattle.protocol.specs.declared.answer.CoordNote.{CoordNote}
-use Rattle.protocol.specs.declared.answer.CoordNote.TheVariants as coord
-use Rattle.protocol.specs.declared.answer.EventNote.TheVariants as note
-use Rattle.protocol.specs.declared.answer.EventRefusal.{EventRefusal}
-use Rattle.protocol.specs.declared.answer.EventRefusal.TheVariants as refusal
-use Rattle.protocol.specs.declared.answer.Outcome.{Outcome}
-use Rattle.protocol.specs.declared.event.Event.{Event}
-use Rattle.protocol.specs.declared.event.Event.TheVariants.{Deliver}
+use Rattle.events.specs.declared.answer.Kept.{Kept}
+use Rattle.events.specs.declared.answer.CoordNote.{CoordNote}
+use Rattle.events.specs.declared.answer.CoordNote.TheVariants as coord
+use Rattle.events.specs.declared.answer.EventNote.TheVariants as note
+use Rattle.events.specs.declared.answer.EventRefusal.{EventRefusal}
+use Rattle.events.specs.declared.answer.EventRefusal.TheVariants as refusal
+use Rattle.events.specs.declared.answer.Outcome.{Outcome}
+use Rattle.events.specs.declared.event.Event.{Event}
+use Rattle.events.specs.declared.event.Event.TheVariants.{Deliver}
 use Rattle.protocol.proofs.Base.{in_map, in_right, nth_in}
 use Rattle.protocol.proofs.Refusals.{nothing_done}
 use Rattle.coordinator.specs.Promises.{granted}

@@ -8,10 +8,10 @@ use Rattle.protocol.specs.Safe.{EveryRunIsSafe, EveryRunStaysSafe}
 use Rattle.protocol.specs.Lawful.{IsEvent, IsLawfulFarm, EveryFarmStaysLawful}
 use Rattle.protocol.specs.Replay.{Farm, Turn, step}
 use Rattle.protocol.specs.Follows.{SafeAfter, SafeBetween, EveryEventIsMoves}
-use Rattle.protocol.specs.declared.answer.EventRefusal.{EventRefusal}
-use Rattle.protocol.specs.declared.answer.EventRefusal.TheVariants as refusal
-use Rattle.protocol.specs.declared.answer.Outcome.{Outcome}
-use Rattle.protocol.specs.declared.event.Event.{Event}
+use Rattle.events.specs.declared.answer.EventRefusal.{EventRefusal}
+use Rattle.events.specs.declared.answer.EventRefusal.TheVariants as refusal
+use Rattle.events.specs.declared.answer.Outcome.{Outcome}
+use Rattle.events.specs.declared.event.Event.{Event}
 use Rattle.protocol.proofs.Schedules.{moves_trans}
 use Rattle.world.specs.Turns.{Came}
 use Rattle.world.proofs.MeaningLemmas.{means_as_told}

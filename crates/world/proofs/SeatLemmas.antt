@@ -10,9 +10,9 @@ use Rattle.protocol.specs.Lists.{nth, set_nth}
 use Rattle.protocol.specs.Names.{NodeId}
 use Rattle.protocol.specs.World.{Node, first_node}
 use Rattle.protocol.specs.Nodes.{Place, NodeWork, NodeAnswer, may_restart, restarted, unless_spent}
-use Rattle.protocol.specs.declared.answer.NodeRefusal.TheVariants as refusal
+use Rattle.events.specs.declared.answer.NodeRefusal.TheVariants as refusal
 use Rattle.protocol.specs.Farm.{farm_limits}
-use Rattle.protocol.specs.declared.answer.NodeRefusal.{NodeRefusal}
+use Rattle.events.specs.declared.answer.NodeRefusal.{NodeRefusal}
 use Rattle.nodecore.specs.declared.message.NodeDone.{NodeDone}
 use Rattle.protocol.proofs.Base.{eqb_same, nth_set_cases, nth-set_same, nth-set_other, nth_push_cases}
 use Rattle.farm_base.specs.Contents.{content_digest}

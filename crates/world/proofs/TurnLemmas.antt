@@ -6,19 +6,19 @@ use Rattle.std.proofs.lemmas.List.{length-map}
 use Rattle.protocol.specs.Lists.{put}
 use Rattle.protocol.specs.Names.{NodeId}
 use Rattle.protocol.specs.Machine.{Message, Told, FromCoord}
-use Rattle.protocol.specs.declared.answer.CoordNote.{CoordNote}
+use Rattle.events.specs.declared.answer.CoordNote.{CoordNote}
 use Rattle.protocol.specs.World.{Node}
 use Rattle.protocol.specs.Nodes.{Place, NodeAnswer, may_restart, restarted, unless_spent}
 use Rattle.protocol.specs.Ledger.{Work, Saved}
 use Rattle.protocol.specs.Farm.{farm_limits}
 use Rattle.protocol.specs.Replay.{Farm, Turn, first_sent, is_node, at, at_node, node_does, answered, done, moved, refused, restarts, after_work}
-use Rattle.protocol.specs.declared.answer.NodeRefusal.{NodeRefusal}
-use Rattle.protocol.specs.declared.answer.NodeRefusal.TheVariants as node
-use Rattle.protocol.specs.declared.answer.EventNote.{EventNote}
-use Rattle.protocol.specs.declared.answer.EventNote.TheVariants as note
-use Rattle.protocol.specs.declared.answer.EventRefusal.{EventRefusal}
-use Rattle.protocol.specs.declared.answer.EventRefusal.TheVariants as refusal
-use Rattle.protocol.specs.declared.answer.Outcome.{Outcome}
+use Rattle.events.specs.declared.answer.NodeRefusal.{NodeRefusal}
+use Rattle.events.specs.declared.answer.NodeRefusal.TheVariants as node
+use Rattle.events.specs.declared.answer.EventNote.{EventNote}
+use Rattle.events.specs.declared.answer.EventNote.TheVariants as note
+use Rattle.events.specs.declared.answer.EventRefusal.{EventRefusal}
+use Rattle.events.specs.declared.answer.EventRefusal.TheVariants as refusal
+use Rattle.events.specs.declared.answer.Outcome.{Outcome}
 use Rattle.nodecore.specs.declared.message.NodeDone.{NodeDone}
 use Rattle.farm_base.specs.declared.message.ToNode.{ToNode}
 use Rattle.nodecore.specs.Shown.{work_of, message_work, Answers}

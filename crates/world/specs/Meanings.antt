@@ -14,14 +14,14 @@ use Rattle.protocol.specs.Follows.{Shows, MayBeGranted, after_life}
 use Rattle.protocol.specs.Meaning.{CouldBeGranted, Means}
 use Rattle.protocol.specs.Chronicle.{AsksAreAnswered}
 use Rattle.protocol.specs.Reasons.{Fair}
-use Rattle.protocol.specs.declared.answer.CoordNote.{CoordNote}
-use Rattle.protocol.specs.declared.answer.CoordNote.TheVariants as coord
-use Rattle.protocol.specs.declared.answer.EventNote.TheVariants as note
-use Rattle.protocol.specs.declared.answer.EventRefusal.{EventRefusal}
-use Rattle.protocol.specs.declared.answer.EventRefusal.TheVariants.{OutOfMemory}
-use Rattle.protocol.specs.declared.answer.Outcome.{Outcome}
-use Rattle.protocol.specs.declared.event.Event.{Event}
-use Rattle.protocol.specs.declared.event.Event.TheVariants.{Deliver}
+use Rattle.events.specs.declared.answer.CoordNote.{CoordNote}
+use Rattle.events.specs.declared.answer.CoordNote.TheVariants as coord
+use Rattle.events.specs.declared.answer.EventNote.TheVariants as note
+use Rattle.events.specs.declared.answer.EventRefusal.{EventRefusal}
+use Rattle.events.specs.declared.answer.EventRefusal.TheVariants.{OutOfMemory}
+use Rattle.events.specs.declared.answer.Outcome.{Outcome}
+use Rattle.events.specs.declared.event.Event.{Event}
+use Rattle.events.specs.declared.event.Event.TheVariants.{Deliver}
 use Rattle.coordinator.specs.Promises.{granted}
 use Rattle.world.specs.Replays.{replayed}
 

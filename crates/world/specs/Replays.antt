@@ -3,7 +3,7 @@ use Rattle.std.specs.Prelude.{◌≡◌, ℕ, List, ◌∷◌, ◌++◌}
 use Rattle.farm_base.specs.Contents.{content_digest}
 use Rattle.protocol.specs.Farm.{farm_limits}
 use Rattle.protocol.specs.Replay.{Farm, run, opening}
-use Rattle.protocol.specs.declared.event.Event.{Event}
+use Rattle.events.specs.declared.event.Event.{Event}
 use Rattle.protocol.specs.Follows.{SafeBetween}
 use Rattle.protocol.specs.Lists.{In}
 use Rattle.protocol.specs.Names.{Slot}

@@ -7,8 +7,8 @@ use Rattle.protocol.specs.Names.{NodeId}
 use Rattle.protocol.specs.World.{Node, first_node}
 use Rattle.protocol.specs.Nodes.{Place, NodeAnswer, may_restart, restarted, asked, asked_tenure, begun, finished_with, aborted, forgotten, brought, unless_spent}
 use Rattle.nodecore.specs.declared.node_core.NodeCore.{NodeCore}
-use Rattle.protocol.specs.declared.answer.NodeRefusal.{NodeRefusal}
-use Rattle.protocol.specs.declared.answer.NodeRefusal.TheVariants as refusal
+use Rattle.events.specs.declared.answer.NodeRefusal.{NodeRefusal}
+use Rattle.events.specs.declared.answer.NodeRefusal.TheVariants as refusal
 use Rattle.nodecore.specs.declared.message.NodeDone.{NodeDone}
 use Rattle.nodeasks.specs.Rows.{none_lost}
 use Rattle.nodecore.specs.Shown.{forgets, shown, place, work_of}

@@ -4,18 +4,18 @@ use Rattle.protocol.specs.Farm.{farm_limits}
 use Rattle.protocol.specs.Names.{NodeId}
 use Rattle.protocol.specs.Ledger.{handled, retired, begin_work, reads}
 use Rattle.protocol.specs.Replay.{Farm, Turn, is_node, at, restarts, coordinated, refused, done}
-use Rattle.protocol.specs.declared.answer.CoordRefusal.{CoordRefusal}
-use Rattle.protocol.specs.declared.answer.CoordRefusal.TheVariants as coord
+use Rattle.events.specs.declared.answer.CoordRefusal.{CoordRefusal}
+use Rattle.events.specs.declared.answer.CoordRefusal.TheVariants as coord
 use Rattle.farm_base.specs.declared.message.Message.{Message}
 use Rattle.farm_base.specs.declared.message.Message.TheVariants.{ToCoord, ToNode}
 use Rattle.nodecore.specs.Shown.{message_work}
-use Rattle.protocol.specs.declared.answer.NodeRefusal.{NodeRefusal}
-use Rattle.protocol.specs.declared.answer.NodeRefusal.TheVariants as node
-use Rattle.protocol.specs.declared.answer.EventNote.TheVariants as note
-use Rattle.protocol.specs.declared.answer.EventRefusal.{EventRefusal}
-use Rattle.protocol.specs.declared.answer.EventRefusal.TheVariants as refusal
+use Rattle.events.specs.declared.answer.NodeRefusal.{NodeRefusal}
+use Rattle.events.specs.declared.answer.NodeRefusal.TheVariants as node
+use Rattle.events.specs.declared.answer.EventNote.TheVariants as note
+use Rattle.events.specs.declared.answer.EventRefusal.{EventRefusal}
+use Rattle.events.specs.declared.answer.EventRefusal.TheVariants as refusal
 use Rattle.farm_base.specs.Receivers.{receiver}
-use Rattle.protocol.specs.declared.answer.Outcome.{Outcome}
+use Rattle.events.specs.declared.answer.Outcome.{Outcome}
 
 -- the number of the first message that is sent after `before` others, 0 if none is sent
 abbrev pub first_number : ℕ → ℕ → ℕ

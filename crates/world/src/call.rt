@@ -2,9 +2,9 @@ ghost use Rattle.nodecore.specs.Shown.{forgets, shown, place, Answers};
 ghost use Rattle.world.specs.Tables.{called};
 ghost use Rattle.std.specs.Prelude.{◌≡◌};
 
+use events::NodeRefusal;
 use farm_base::{Content, Digest, FolderName, Items, Left, NodeId, Ticket, Wants};
 use nodecore::{NodeCore, NodeDone, ToNode};
-use protocol::NodeRefusal;
 use std::alloc::Global;
 
 /// What an event asks of one node.

@@ -7,7 +7,7 @@ ghost use Rattle.protocol.specs.Machine.{LineVersion};
 ghost use Rattle.protocol.specs.World.{start};
 ghost use Rattle.protocol.specs.Chronicle.{Chronicle};
 ghost use Rattle.protocol.specs.Replay.{opening};
-ghost use Rattle.protocol.specs.declared.event.Event.{Event};
+ghost use Rattle.events.specs.declared.event.Event.{Event};
 ghost use Rattle.world.specs.Printing.{ArePrinted};
 ghost use Rattle.world.specs.Replays.{KeepsHeadline};
 

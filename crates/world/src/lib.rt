@@ -10,9 +10,9 @@ mod printing;
 mod replaying;
 mod world;
 
+pub use events::{EventNote, EventRefusal, Outcome};
 pub use farm_base::{Message, ToNode};
 pub use printing::print_lines;
-pub use protocol::{EventNote, EventRefusal, Outcome};
 pub use replaying::{ReplayRefusal, replay};
 pub use schedule::{Event, ScheduleRefusal, Setup, print_note, print_outcome, read_schedule};
 pub use world::{StartRefusal, World};

@@ -7,9 +7,9 @@ ghost use Rattle.farm_base.specs.Receivers.{receiver};
 ghost use Rattle.world.specs.Tables.{node_at, has, seat, called, AreSeated, AreFirst, OnlyNode, Restarts};
 
 use super::call::{Call, answer};
+use events::NodeRefusal;
 use farm_base::NodeId;
 use nodecore::{NodeCore, NodeDone, ToNode};
-use protocol::NodeRefusal;
 use std::alloc::{AllocError, Global};
 
 /// The nodes of a farm, by rising number.

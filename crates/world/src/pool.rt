@@ -4,12 +4,12 @@ ghost use Rattle.std.specs.Vec.{vec_capacity};
 ghost use Rattle.protocol.specs.Machine.{Told};
 ghost use Rattle.protocol.specs.Lists.{nth};
 ghost use Rattle.world.specs.Turns.{first_number};
-ghost use Rattle.protocol.specs.declared.answer.EventNote.TheVariants as note;
+ghost use Rattle.events.specs.declared.answer.EventNote.TheVariants as note;
 
 use coordinator::Handled;
+use events::{EventNote, Outcome};
 use farm_base::{FromCoord, Items};
 use nodecore::{Message, NodeDone, ToNode};
-use protocol::{EventNote, Outcome};
 
 /// The place of the message of a number.
 pub(crate) fn place_in(pool: &[Message], number: u64) -> Option<usize>

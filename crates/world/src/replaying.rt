@@ -13,8 +13,8 @@ ghost use Rattle.world.specs.Replays.{replayed, StaysSafe, KeepsHeadline};
 
 use super::laws::every_replay_means;
 use super::world::{World, is_setup};
+use events::EventRefusal;
 use farm_base::{Copied, EVENTS};
-use protocol::EventRefusal;
 use protocol::laws::{every_ask_is_answered, every_schedule_is_safe};
 use schedule::{Event, Setup};
 use std::alloc::{AllocError, Global};

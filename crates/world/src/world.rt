@@ -18,13 +18,13 @@ ghost use Rattle.world.specs.Worlds.{IsWorld};
 use super::parts::Parts;
 use super::pool::message_at;
 use coordinator::Coordinator;
+use events::{EventRefusal, Outcome};
 use farm_base::{NODES, NodeId};
 use nodecore::{Message, NodeCore};
 use protocol::laws::{
     a_fitting_message_is_granted, every_ask_is_answered, every_event_is_moves,
     every_farm_stays_lawful, every_run_is_safe, every_schedule_is_safe,
 };
-use protocol::{EventRefusal, Outcome};
 use saverecord::MemoryKeeper;
 use schedule::{Event, Setup};
 use std::alloc::Global;

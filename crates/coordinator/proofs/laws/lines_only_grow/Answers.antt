@@ -1,8 +1,8 @@
 use Rattle.std.proofs.Common.{subst}
 use Rattle.protocol.proofs.Base.{front_trans}
-use Rattle.coordinator.specs.Promises.{OnlyGrow}
+use Rattle.ledger.specs.Settling.{OnlyGrow}
 use Rattle.drafts.specs.Shown.{LineOf}
-use Rattle.coordinator.proofs.Kept.{stays}
+use Rattle.ledger.proofs.Growing.{stays}
 use Rattle.coordinator.proofs.laws.lines_only_grow.Goals as goal
 
 pub returns-clause-equal : goal.returns-clause-equal

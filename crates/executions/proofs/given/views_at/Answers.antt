@@ -5,7 +5,7 @@ use Rattle.lists.proofs.Places.{take_push, AllZip-push}
 use Rattle.cachemounts.specs.declared.viewing.CacheView.{CacheView}
 use Rattle.executions.specs.declared.task.View.{View}
 use Rattle.executions.specs.Given.{IsViewAt}
-use Rattle.executions.specs.Seen.{folder_seen}
+use Rattle.slotfolders.specs.Seen.{folder_seen}
 use Rattle.executions.proofs.given.views_at.Goals as goal
 
 pub loop-place-preserved : goal.loop-place-preserved

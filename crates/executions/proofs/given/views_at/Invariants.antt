@@ -1,7 +1,7 @@
 use Rattle.std.proofs.Common.{take}
 use Rattle.std.specs.List.{AllZip}
 use Rattle.executions.specs.Given.{IsViewAt}
-use Rattle.executions.specs.Seen.{folder_seen}
+use Rattle.slotfolders.specs.Seen.{folder_seen}
 use Rattle.executions.proofs.given.views_at.Given as goal
 
 -- the views so far

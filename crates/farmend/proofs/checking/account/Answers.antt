@@ -1,14 +1,12 @@
 use Rattle.std.proofs.Common.{List, map, ap, ◌∙◌, subst}
 use Rattle.std.specs.Borrow.{Bor}
-use Rattle.std.specs.List.{AllZip}
-use Rattle.executions.specs.Calls.{Grew}
 use Rattle.executions.specs.declared.call.Call.{Call}
 use Rattle.farm_base.specs.declared.number.NodeId.{NodeId}
 use Rattle.jobs.specs.declared.answer.Answer.{Answer}
 use Rattle.solverkeys.specs.Keyed.{KeyedParts}
 use Rattle.world.specs.Shown.{shown}
-use Rattle.farmend.specs.Answers.{IsAnswered}
-use Rattle.farmend.specs.NewCalls.{new_calls, on_node}
+use Rattle.reasons.specs.Answers.{IsAnswered}
+use Rattle.reasons.specs.NewCalls.{on_node}
 use Rattle.farmend.specs.declared.hired.Hired.{Hired}
 use Rattle.jobs.proofs.StayLemmas.{zip_weaker}
 use Rattle.farmend.proofs.NewsLemmas.{grew_if_new, on_node_if_new}

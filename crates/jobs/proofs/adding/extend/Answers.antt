@@ -1,12 +1,12 @@
 use Rattle.std.proofs.Common.{◌≡◌, ap, sym, subst, ◌∙◌, List, Bool, length, arith}
-use Rattle.jobs.specs.Marks.{AreMarks, MarksFail}
-use Rattle.jobs.specs.Spreading.{Marking}
+use Rattle.keytable.specs.Marks.{AreMarks, MarksFail}
+use Rattle.keytable.specs.Spreading.{Marking}
 use Rattle.jobs.proofs.AddLemmas.{added_marks, added_users, added_list, added_right, between_size, listed_back}
 use Rattle.jobs.proofs.CursorLemmas.{cursors_added}
-use Rattle.jobs.proofs.MarkLemmas.{distinct}
-use Rattle.jobs.proofs.ProgressLemmas.{whole}
+use Rattle.keytable.proofs.MarkLemmas.{distinct}
+use Rattle.keytable.proofs.ProgressLemmas.{whole}
 use Rattle.jobs.proofs.ShapeLemmas.{ready_before}
-use Rattle.jobs.proofs.UserLemmas.{user_within}
+use Rattle.keytable.proofs.UserLemmas.{user_within}
 use Rattle.jobs.proofs.StayLemmas.{list_same, all_same}
 use Rattle.jobs.proofs.adding.extend.Goals as goal
 

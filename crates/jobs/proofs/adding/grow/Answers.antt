@@ -1,4 +1,4 @@
-use Rattle.jobs.proofs.MarkLemmas.{distinct}
+use Rattle.keytable.proofs.MarkLemmas.{distinct}
 use Rattle.jobs.proofs.ShapeLemmas.{users_added}
 use Rattle.jobs.proofs.adding.grow.Goals as goal
 

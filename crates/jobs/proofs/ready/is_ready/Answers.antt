@@ -1,9 +1,9 @@
 use Rattle.std.proofs.Common.{ap, sym, ◌∙◌, subst, refl}
 use Rattle.lists.proofs.Places.{at_place}
-use Rattle.jobs.specs.declared.entry.Entry.{Entry}
+use Rattle.keytable.specs.declared.entry.Entry.{Entry}
 use Rattle.jobs.specs.ReadyLists.{AreThereBefore}
 use Rattle.jobs.proofs.CursorLemmas.{cursors_set}
-use Rattle.jobs.proofs.MarkLemmas.{read_at}
+use Rattle.keytable.proofs.MarkLemmas.{read_at}
 use Rattle.jobs.proofs.ReadyLemmas.{ready_there, not_waiting}
 use Rattle.jobs.proofs.ready.is_ready.Goals as goal
 

@@ -1,8 +1,8 @@
 use Rattle.std.proofs.Common.{◌≡◌, Some, ap, arith, inl, inr}
 use Rattle.std.specs.List.{Contains}
-use Rattle.jobs.specs.declared.users.Link.{Link}
+use Rattle.keytable.specs.declared.users.Link.{Link}
 use Rattle.jobs.specs.ReadyLists.{IsReadyAt, listed}
-use Rattle.jobs.proofs.UserLemmas.{walk_step, walk_more, walk_last, last_below, steps_left, place_within, link_there, user_within, before_is, user_done}
+use Rattle.keytable.proofs.UserLemmas.{walk_step, walk_more, walk_last, last_below, steps_left, place_within, link_there, user_within, before_is, user_done}
 use Rattle.jobs.proofs.ready.list_users.Goals as goal
 
 pub look_at-requires-clause-within : goal.look_at-requires-clause-within

@@ -1,8 +1,8 @@
 use Rattle.std.proofs.Common.{ℕ, length}
 use Rattle.std.specs.List.{Contains}
-use Rattle.jobs.specs.declared.users.Link.{Link}
+use Rattle.keytable.specs.declared.users.Link.{Link}
 use Rattle.jobs.specs.ReadyLists.{AreCursors, IsList, IsReadyAt, HasRoom, listed}
-use Rattle.jobs.proofs.UserLemmas.{IsWalking, steps_left}
+use Rattle.keytable.proofs.UserLemmas.{IsWalking, steps_left}
 use Rattle.jobs.proofs.ready.list_users.Given as goal
 
 abbrev pub invariant-loop-next : goal.invariant-loop-next

@@ -1,10 +1,11 @@
 use Rattle.std.proofs.Common.{◌≡◌, inl, inr, ap, sym, subst, ◌∙◌, arith, length}
 use Rattle.std.proofs.lemmas.List.{length-set}
-use Rattle.jobs.specs.Kept.{AreKept}
+use Rattle.keytable.specs.Kept.{AreKept}
 use Rattle.jobs.proofs.CursorLemmas.{cursors_moved}
-use Rattle.jobs.proofs.MarkLemmas.{distinct}
-use Rattle.jobs.proofs.ProgressLemmas.{whole}
-use Rattle.jobs.proofs.ShapeLemmas.{users_moved, closed_moved, ready_cases}
+use Rattle.keytable.proofs.MarkLemmas.{distinct}
+use Rattle.keytable.proofs.ProgressLemmas.{whole}
+use Rattle.keytable.proofs.ShapeLemmas.{users_moved, closed_moved}
+use Rattle.jobs.proofs.ShapeLemmas.{ready_cases}
 use Rattle.jobs.proofs.StayLemmas.{list_moved, finished_right}
 use Rattle.jobs.proofs.settling.finish.Goals as goal
 

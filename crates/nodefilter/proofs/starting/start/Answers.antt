@@ -4,7 +4,7 @@ use Rattle.std.proofs.lemmas.List.Elements.{All-weaker}
 use Rattle.farm_base.specs.Contents.{content_digest}
 use Rattle.farm_base.specs.declared.message.Version.{Version}
 use Rattle.nodecore.specs.Shown.{work_of, shown}
-use Rattle.nodecore.specs.Stored.{kept_node}
+use Rattle.nodecontents.specs.Stored.{kept_node}
 use Rattle.protocol.specs.Names.{Digest, Life}
 use Rattle.protocol.specs.Farm.{farm_limits}
 use Rattle.protocol.specs.Nodes.{NodeWork, restarted, may_restart}

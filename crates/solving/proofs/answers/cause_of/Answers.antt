@@ -1,5 +1,5 @@
 use Rattle.std.proofs.Common.{subst}
-use Rattle.jobs.specs.Causes.{IsCause}
+use Rattle.keytable.specs.Causes.{IsCause}
 use Rattle.solving.proofs.answers.cause_of.Goals as goal
 
 pub returns-in-Ok-Some : goal.returns-in-Ok-Some

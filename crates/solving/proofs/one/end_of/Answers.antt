@@ -1,10 +1,10 @@
 use Rattle.std.proofs.Common.{◌≡◌, ◌∙◌, List, sym, ap}
-use Rattle.protocol.specs.declared.event.Event.{Event}
+use Rattle.events.specs.declared.event.Event.{Event}
 use Rattle.schedule.specs.declared.setup.Setup.{Setup}
-use Rattle.farmboard.specs.Counts.{counts_of}
-use Rattle.farmboard.specs.declared.counts.Counts.{Counts}
-use Rattle.farmboard.specs.Replays.{replayed}
-use Rattle.farmboard.proofs.ReplayLemmas.{counts_of-replayed}
+use Rattle.farmhistory.specs.Counts.{counts_of}
+use Rattle.farmhistory.specs.declared.counts.Counts.{Counts}
+use Rattle.farmhistory.specs.Replays.{replayed}
+use Rattle.farmhistory.proofs.ReplayLemmas.{counts_of-replayed}
 use Rattle.solving.proofs.one.end_of.Goals as goal
 
 pub returns-clause-replay : goal.returns-clause-replay

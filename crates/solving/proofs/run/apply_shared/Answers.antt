@@ -4,8 +4,9 @@ use Rattle.executions.specs.declared.refusal.SharedRefusal.{SharedRefusal}
 use Rattle.std.specs.Vec.Iter.{into_iter_items}
 use Rattle.protocol.specs.Names.{is_shared}
 use Rattle.folders.specs.declared.edit.Edit.{Edit}
-use Rattle.executions.specs.Left.{FolderEdits}
-use Rattle.executions.specs.Live.{Applies, batch}
+use Rattle.slotfolders.specs.Left.{FolderEdits}
+use Rattle.slotfolders.specs.Batches.{batch}
+use Rattle.executions.specs.Live.{Applies}
 use Rattle.solving.specs.Batches.{with_batches}
 use Rattle.solving.proofs.BatchLemmas.{shared_more, other_more, not_shared, refused_same, taken_front}
 use Rattle.solving.proofs.run.apply_shared.Goals.{in-Shared, in_default, then-matches+in-Ok, else-matches}

@@ -5,7 +5,7 @@ use Rattle.protocol.specs.Farm.{farm_limits}
 use Rattle.protocol.specs.Follows.{SafeAfter}
 use Rattle.protocol.specs.Chronicle.{Headline}
 use Rattle.protocol.specs.Replay.{Farm, opening, run}
-use Rattle.protocol.specs.declared.event.Event.{Event}
+use Rattle.events.specs.declared.event.Event.{Event}
 use Rattle.world.specs.Shown.{shown}
 use Rattle.world.proofs.LimitLemmas.{is_farm}
 use Rattle.world.proofs.MeaningLemmas.{none_waits_idly}

@@ -2,19 +2,20 @@ use Rattle.std.proofs.Common.{◌≡◌, false, Ok, sym, ap, ◌∙◌, subst}
 use Rattle.protocol.specs.Farm.{farm_limits}
 use Rattle.protocol.specs.Ledger.{Work, begin_work, pruned}
 use Rattle.drafts.specs.Held.{Held, ledger}
-use Rattle.coordinator.specs.Seen.{Seen}
-use Rattle.coordinator.specs.Prepared.{IsPrepared}
+use Rattle.drafts.specs.Keeps.{held}
+use Rattle.ledger.specs.Seen.{Seen}
+use Rattle.ledger.specs.Prepared.{IsPrepared}
 use Rattle.drafts.specs.Shown.{work_of}
-use Rattle.coordinator.proofs.Keeping.{settled_up}
+use Rattle.coordinator.proofs.Answering.{settled_up}
 use Rattle.coordinator.proofs.coordinator.Coordinator.prune.Goals as goal
 
 pub settle-requires-clause-prepared : goal.settle-requires-clause-prepared
-settle-requires-clause-prepared g c = subst (λ (h : Held). IsPrepared h c.in-Ok.prepared) (ap (λ (s : Seen g.row.K.Denot). s.held) c.self.view_is) c.in-Ok.ensures.prepared
+settle-requires-clause-prepared g c = subst (λ (h : Held). IsPrepared h c.in-Ok.prepared) (c.state-state.ensures.held ∙ ap (λ (s : Seen g.row.K.Denot). s.held) c.self.view_is) c.in-Ok.ensures.prepared
 
 pub returns-clause-answer : goal.returns-clause-answer
 returns-clause-answer g c =
-    let held : c.self.inside.ledger ≡ c.args.self.now.held = ap (λ (s : Seen g.row.K.Denot). s.held) c.self.view_is in
+    let same : held c.state-state.result.now ≡ c.args.self.now.held = c.state-state.ensures.held ∙ ap (λ (s : Seen g.row.K.Denot). s.held) c.self.view_is in
     let w : (Held → Work) = λ h. work_of h c.in-Ok.prepared.effects.value in
-    let work : pruned farm_limits c.args.slot.now (begin_work (ledger c.args.self.now.held)) ≡ Ok (w c.args.self.now.held) = subst (λ (h : Held). pruned farm_limits c.args.slot.now (begin_work (ledger h)) ≡ Ok (w h)) held c.in-Ok.ensures.work in
+    let work : pruned farm_limits c.args.slot.now (begin_work (ledger c.args.self.now.held)) ≡ Ok (w c.args.self.now.held) = subst (λ (h : Held). pruned farm_limits c.args.slot.now (begin_work (ledger h)) ≡ Ok (w h)) same c.in-Ok.ensures.work in
     let up : c.args.self.now.down ≡ false = sym (ap (λ (s : Seen g.row.K.Denot). s.down) c.self.view_is) ∙ c.if-self.false in
     settled_up g.K.Keeper.saving (pruned farm_limits c.args.slot.now (begin_work (ledger c.args.self.now.held))) (Ok (w c.args.self.now.held)) c.args.self.now c.settle.new.self c.settle.result up (sym work) c.settle.ensures.answer

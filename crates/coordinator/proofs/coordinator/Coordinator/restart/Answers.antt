@@ -1,6 +1,6 @@
 use Rattle.std.proofs.Common.{false, sym, subst}
-use Rattle.coordinator.specs.Seen.{IsKeeping}
-use Rattle.coordinator.proofs.Keeping.{taken_up}
+use Rattle.ledger.specs.Seen.{IsKeeping}
+use Rattle.ledger.proofs.Keeping.{taken_up}
 use Rattle.coordinator.proofs.coordinator.Coordinator.restart.Goals as goal
 
 pub invariant_of-self : goal.invariant_of-self

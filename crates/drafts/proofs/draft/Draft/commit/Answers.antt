@@ -1,6 +1,6 @@
 use Rattle.std.proofs.Common.{◌≡◌, true, Bool, List, Some, Option, refl, ap, sym, ◌∙◌, subst}
 use Rattle.protocol.specs.Farm.{farm_limits}
-use Rattle.protocol.specs.declared.answer.CoordNote.TheVariants as note
+use Rattle.events.specs.declared.answer.CoordNote.TheVariants as note
 use Rattle.protocol.specs.Ledger.{Work, retried, notes, lease_under, may_commit, commits, confirms, committing}
 use Rattle.versions.specs.Additions.{IsReady}
 use Rattle.versions.specs.declared.lines.Added.{Added}

@@ -1,6 +1,6 @@
 use Rattle.std.proofs.Common.{ap}
 use Rattle.protocol.specs.Farm.{farm_limits}
-use Rattle.protocol.specs.declared.answer.Decision.{Decision}
+use Rattle.events.specs.declared.answer.Decision.{Decision}
 use Rattle.protocol.specs.Ledger.{decision, decided}
 use Rattle.drafts.specs.Shown.{work}
 use Rattle.drafts.proofs.Drafting.{makes-as, makes-then}

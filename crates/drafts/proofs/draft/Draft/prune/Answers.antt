@@ -3,7 +3,7 @@ use Rattle.farm_base.specs.Contents.{empty_digest}
 use Rattle.protocol.specs.Farm.{farm_limits}
 use Rattle.holdings.specs.Tickets.{Tickets, advanced}
 use Rattle.protocol.specs.Names.{slot_eq, Ticket}
-use Rattle.protocol.specs.declared.answer.CoordNote.TheVariants as note
+use Rattle.events.specs.declared.answer.CoordNote.TheVariants as note
 use Rattle.protocol.specs.Ledger.{Work}
 use Rattle.versions.specs.declared.lines.Added.{Added}
 use Rattle.versions.specs.declared.lines.SlotLine.{SlotLine}

@@ -1,7 +1,7 @@
 use Rattle.std.proofs.Common.{◌≡◌, true, refl, ap, sym, ◌∙◌, subst}
 use Rattle.protocol.specs.Farm.{farm_limits}
 use Rattle.protocol.specs.Ledger.{Work, released, retried, notes, lease_under, may_release}
-use Rattle.protocol.specs.declared.answer.CoordNote.TheVariants as note
+use Rattle.events.specs.declared.answer.CoordNote.TheVariants as note
 use Rattle.drafts.specs.Idle.{AreIdle}
 use Rattle.drafts.specs.Keeps.{IsKeepable}
 use Rattle.drafts.specs.Shown.{work, ended}

@@ -1,7 +1,7 @@
 use Rattle.std.proofs.Common.{◌≡◌, refl, Bool, cond, ap, sym, ◌∙◌, subst, Ok}
 use Rattle.std.specs.List.{list_any}
 use Rattle.protocol.specs.Farm.{farm_limits}
-use Rattle.protocol.specs.declared.answer.CoordNote.TheVariants as note
+use Rattle.events.specs.declared.answer.CoordNote.TheVariants as note
 use Rattle.protocol.specs.Ledger.{Work, retired, retried, notes, goes, is_at}
 use Rattle.leases.specs.Leases.{Table}
 use Rattle.drafts.specs.Idle.{AreIdle}

@@ -1,7 +1,7 @@
 use Rattle.std.proofs.Common.{sym}
 use Rattle.protocol.specs.Farm.{farm_limits}
 use Rattle.protocol.specs.Ledger.{tried}
-use Rattle.protocol.specs.declared.answer.Decision.TheVariants.{Give, Deny, Wait}
+use Rattle.events.specs.declared.answer.Decision.TheVariants.{Give, Deny, Wait}
 use Rattle.drafts.specs.Shown.{work}
 use Rattle.drafts.proofs.Drafting.{makes-none, makes-as}
 use Rattle.drafts.proofs.Trying.{tried-is, stays-is}

@@ -4,7 +4,7 @@ use Rattle.protocol.specs.Farm.{farm_limits}
 use Rattle.protocol.specs.Lists.{In}
 use Rattle.protocol.specs.Machine.{Parked}
 use Rattle.protocol.specs.Ledger.{Work, try_all, waiting, decision, is_free}
-use Rattle.protocol.specs.declared.answer.Decision.TheVariants.{Wait}
+use Rattle.events.specs.declared.answer.Decision.TheVariants.{Wait}
 use Rattle.leaseindex.proofs.MarkLemmas.{drop-item}
 use Rattle.drafts.specs.declared.effects.Effects.{Effects}
 use Rattle.drafts.specs.declared.state.State.{State}

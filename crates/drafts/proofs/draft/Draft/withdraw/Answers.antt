@@ -1,6 +1,6 @@
 use Rattle.std.proofs.Common.{refl, ap, sym, ◌∙◌, subst, Ok}
 use Rattle.protocol.specs.Farm.{farm_limits}
-use Rattle.protocol.specs.declared.answer.CoordNote.TheVariants as note
+use Rattle.events.specs.declared.answer.CoordNote.TheVariants as note
 use Rattle.protocol.specs.Ledger.{Work, retried, notes, withdrawn}
 use Rattle.drafts.specs.Idle.{AreIdle}
 use Rattle.drafts.specs.Keeps.{IsKeepable}

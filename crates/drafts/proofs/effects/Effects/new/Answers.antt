@@ -1,5 +1,5 @@
 use Rattle.std.proofs.Common.{List, false, ap, ◌∙◌}
-use Rattle.protocol.specs.declared.answer.CoordNote.TheVariants as note
+use Rattle.events.specs.declared.answer.CoordNote.TheVariants as note
 use Rattle.protocol.specs.Machine.{FromCoord}
 use Rattle.protocol.specs.Ledger.{Ledger, Work}
 use Rattle.drafts.specs.Held.{ledger}

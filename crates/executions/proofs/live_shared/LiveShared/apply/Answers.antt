@@ -4,9 +4,10 @@ use Rattle.std.specs.Option.{option_map}
 use Rattle.farm_base.proofs.NameLaws.{folder_exact}
 use Rattle.folders.specs.Edits.{edited_all}
 use Rattle.lists.proofs.Places.{some_is}
-use Rattle.executions.specs.declared.batch.Batch.{Batch}
+use Rattle.slotfolders.specs.declared.batch.Batch.{Batch}
 use Rattle.executions.specs.declared.live_shared.Open.{Open}
-use Rattle.executions.specs.Live.{Live, batch, is_named, is_by, files_in, files_of, has_changed}
+use Rattle.slotfolders.specs.Batches.{batch, is_by}
+use Rattle.executions.specs.Live.{Live, is_named, files_in, files_of, has_changed}
 use Rattle.executions.specs.Keeping.{opened, IsKept}
 use Rattle.executions.proofs.LiveLemmas.{found_passes, kept_batched, opened_set}
 use Rattle.executions.proofs.live_shared.LiveShared.apply.Goals as goal

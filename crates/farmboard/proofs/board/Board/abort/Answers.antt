@@ -1,5 +1,5 @@
-use Rattle.std.proofs.Common.{◌≡◌, true, refl, sym, ◌∙◌, rules}
-use Rattle.farmboard.specs.History.{farm_of}
+use Rattle.std.proofs.Common.{◌≡◌, true, refl, rules}
+use Rattle.farmhistory.specs.History.{farm_of}
 use Rattle.farmboard.specs.Begins.{is_running}
 use Rattle.farmboard.proofs.LookLemmas.{sent_back, kept_back, running_has}
 use Rattle.farmboard.proofs.board.Board.abort.Goals as goal

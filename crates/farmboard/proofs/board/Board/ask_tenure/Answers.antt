@@ -1,5 +1,5 @@
 use Rattle.std.proofs.Common.{refl}
-use Rattle.farmboard.proofs.NoteLemmas.{tenure_asker_there}
+use Rattle.farmhistory.proofs.NoteLemmas.{tenure_asker_there}
 use Rattle.farmboard.proofs.board.Board.ask_tenure.Goals as goal
 
 pub returns-clause-token : goal.returns-clause-token

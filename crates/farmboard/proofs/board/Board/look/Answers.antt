@@ -1,4 +1,4 @@
-use Rattle.std.proofs.Common.{◌≡◌, is_some, Err, ap, sym, ◌∙◌, rules}
+use Rattle.std.proofs.Common.{is_some, Err, ap, sym, ◌∙◌, rules}
 use Rattle.farmboard.proofs.LookLemmas.{nowhere, begins_now, refused_now, other_than}
 use Rattle.farmboard.proofs.board.Board.look.Goals as goal
 

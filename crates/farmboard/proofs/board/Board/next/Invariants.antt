@@ -1,5 +1,5 @@
 use Rattle.std.proofs.Common.{◌≡◌, ℕ, ◌≤◌, true}
-use Rattle.farmboard.specs.History.{is_passed}
+use Rattle.farmhistory.specs.History.{is_passed}
 use Rattle.farmboard.proofs.board.Board.next.Given as goal
 
 abbrev pub invariant-loop-number : goal.invariant-loop-number

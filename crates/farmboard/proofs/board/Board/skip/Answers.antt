@@ -1,7 +1,7 @@
 use Rattle.std.proofs.Common.{◌++◌, ◌∷◌, [], List, ℕ, ap, ◌∙◌, subst, sym}
 use Rattle.world.specs.Shown.{shown}
-use Rattle.farmboard.specs.History.{History, IsNext}
-use Rattle.farmboard.proofs.HistoryLemmas.{skipped_more}
+use Rattle.farmhistory.specs.History.{History, IsNext}
+use Rattle.farmhistory.proofs.HistoryLemmas.{skipped_more}
 use Rattle.farmboard.proofs.board.Board.skip.Goals as goal
 
 pub invariant_of-self-2 : goal.invariant_of-self-2

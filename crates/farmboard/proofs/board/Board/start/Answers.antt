@@ -1,5 +1,5 @@
 use Rattle.world.specs.Shown.{shown}
-use Rattle.farmboard.proofs.HistoryLemmas.{board_starts}
+use Rattle.farmhistory.proofs.HistoryLemmas.{board_starts}
 use Rattle.farmboard.proofs.board.Board.start.Goals as goal
 
 pub invariant_of-result : goal.invariant_of-result

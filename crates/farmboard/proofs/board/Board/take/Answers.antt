@@ -1,12 +1,12 @@
-use Rattle.std.proofs.Common.{◌≡◌, ◌<◌, ◌≤◌, List, ℕ, length, ap, subst, ◌∙◌, arith}
+use Rattle.std.proofs.Common.{◌≡◌, ◌<◌, List, ℕ, length, ap, subst, ◌∙◌, arith}
 use Rattle.farm_base.specs.declared.limits.TheConstants.{EVENTS}
 use Rattle.protocol.specs.Ledger.{Lease}
 use Rattle.world.specs.Shown.{shown}
-use Rattle.farmboard.specs.declared.uses.InUse.{InUse}
-use Rattle.farmboard.specs.Boards.{PassesTo}
-use Rattle.farmboard.specs.Counts.{counted}
-use Rattle.farmboard.specs.Out.{out_if}
-use Rattle.farmboard.proofs.HistoryLemmas.{board_pushed, took_pushed}
+use Rattle.farmhistory.specs.declared.uses.InUse.{InUse}
+use Rattle.farmhistory.specs.Boards.{PassesTo}
+use Rattle.farmhistory.specs.Counts.{counted}
+use Rattle.farmhistory.specs.Out.{out_if}
+use Rattle.farmhistory.proofs.HistoryLemmas.{board_pushed, took_pushed}
 use Rattle.farmboard.proofs.board.Board.take.Goals as goal
 
 pub invariant_of-self-2 : goal.invariant_of-self-2

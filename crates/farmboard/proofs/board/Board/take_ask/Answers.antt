@@ -1,5 +1,5 @@
 use Rattle.std.proofs.Common.{sym, ◌∙◌}
-use Rattle.farmboard.proofs.NoteLemmas.{not_unasked}
+use Rattle.farmhistory.proofs.NoteLemmas.{not_unasked}
 use Rattle.farmboard.proofs.board.Board.take_ask.Goals as goal
 
 pub unreachable-requires : goal.unreachable-requires

@@ -3,9 +3,9 @@ use Rattle.std.proofs.lemmas.Bool.Decides.{nat_tests}
 use Rattle.std.proofs.lemmas.Option.{slice_get_read}
 use Rattle.farm_base.specs.declared.digest.Key.{Key}
 use Rattle.lists.proofs.Places.{some_is}
-use Rattle.jobs.specs.Causes.{IsCause}
+use Rattle.keytable.specs.Causes.{IsCause}
 use Rattle.jobs.specs.History.{History}
-use Rattle.jobs.proofs.CauseLemmas.{shown_at}
+use Rattle.jobs.proofs.AnswerLemmas.{shown_at}
 use Rattle.jobs.proofs.jobs.Jobs.cause.Goals as goal
 
 pub returns-clause-cause : goal.returns-clause-cause

@@ -1,7 +1,7 @@
 use Rattle.std.proofs.Common.{◌≡◌, subst}
-use Rattle.jobs.specs.declared.entry.Entry.{Entry}
-use Rattle.jobs.specs.declared.entry.Progress.TheVariants.{Out}
-use Rattle.jobs.specs.Failing.{IsSubmitted}
+use Rattle.keytable.specs.declared.entry.Entry.{Entry}
+use Rattle.keytable.specs.declared.entry.Progress.TheVariants.{Out}
+use Rattle.keytable.specs.Failing.{IsSubmitted}
 use Rattle.jobs.specs.History.{History}
 use Rattle.jobs.proofs.StayLemmas.{moves_shown}
 use Rattle.jobs.proofs.jobs.Jobs.end.Goals as goal

@@ -1,15 +1,15 @@
 use Rattle.std.proofs.Common.{ℕ, ap, sym, subst, ◌∙◌, arith, length}
 use Rattle.std.proofs.lemmas.List.{length-set}
-use Rattle.jobs.specs.declared.entry.Progress.TheVariants.{Out}
+use Rattle.keytable.specs.declared.entry.Progress.TheVariants.{Out}
 use Rattle.std.proofs.lemmas.Option.{slice_get_within}
 use Rattle.std.specs.declared.alloc.Global.{Global}
 use Rattle.std.specs.declared.vec.Vec.{Vec}
 use Rattle.jobs.specs.History.{History, HasNoReady}
 use Rattle.jobs.specs.ReadyLists.{AreCursors}
 use Rattle.jobs.proofs.CursorLemmas.{cursors_moved}
-use Rattle.jobs.proofs.MarkLemmas.{distinct}
+use Rattle.keytable.proofs.MarkLemmas.{distinct}
 use Rattle.jobs.proofs.ReadyLemmas.{marks_out}
-use Rattle.jobs.proofs.ShapeLemmas.{users_moved, closed_moved}
+use Rattle.keytable.proofs.ShapeLemmas.{users_moved, closed_moved}
 use Rattle.jobs.proofs.StayLemmas.{none_ready, first_is_ready, first_is_first, first_within, right_taken, list_taken, all_taken, takes_first, taken_room}
 use Rattle.jobs.proofs.jobs.Jobs.take_ready.Goals as goal
 

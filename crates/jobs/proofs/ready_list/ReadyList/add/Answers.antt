@@ -1,9 +1,9 @@
 use Rattle.std.proofs.Common.{◌+◌, ap, drop, arith, refl, ◌∙◌}
 use Rattle.std.proofs.lemmas.List.{length-drop, take_rest}
 use Rattle.std.proofs.lemmas.Option.{slice_get_within}
-use Rattle.jobs.specs.declared.entry.Entry.{Entry}
+use Rattle.keytable.specs.declared.entry.Entry.{Entry}
 use Rattle.jobs.proofs.ListLemmas.{search_place, place_free, room_left, same_count, inserted, inserted_keeps}
-use Rattle.jobs.proofs.MarkLemmas.{read_at}
+use Rattle.keytable.proofs.MarkLemmas.{read_at}
 use Rattle.jobs.proofs.ready_list.ReadyList.add.Goals as goal
 
 pub put-requires-clause-room : goal.put-requires-clause-room

@@ -1,5 +1,5 @@
 use Rattle.std.proofs.Common.{List, ap, ◌∙◌}
-use Rattle.protocol.specs.declared.ask.KeptAsk.{KeptAsk}
+use Rattle.events.specs.declared.ask.KeptAsk.{KeptAsk}
 use Rattle.nodeasks.specs.Rows.{is_lost}
 use Rattle.nodeasks.proofs.LostLemmas.{none_lost_at}
 use Rattle.nodeasks.proofs.ask_table.AskTable.new.Goals as goal

@@ -1,5 +1,5 @@
 use Rattle.std.proofs.Common.{◌≡◌, ◌+◌, ◌++◌, ◌∷◌, [], List, length, ap, sym, subst, ◌∙◌, arith, length-append}
-use Rattle.protocol.specs.declared.ask.KeptAsk.{KeptAsk}
+use Rattle.events.specs.declared.ask.KeptAsk.{KeptAsk}
 use Rattle.nodeasks.specs.Rows.{HaveRows, is_lost, row_endings}
 use Rattle.nodeasks.proofs.CountLemmas.{endings_push}
 use Rattle.nodeasks.proofs.RowLemmas.{have_push}

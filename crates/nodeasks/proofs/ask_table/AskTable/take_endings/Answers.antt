@@ -2,7 +2,7 @@ use Rattle.std.proofs.Common.{◌≡◌, ◌<◌, ◌≤◌, ◌+◌, ◌||◌, 
 use Rattle.std.proofs.lemmas.Bool.Decides.{nat_tests}
 use Rattle.std.proofs.lemmas.Fn.{filter_same}
 use Rattle.std.proofs.lemmas.Option.{slice_get_read}
-use Rattle.protocol.specs.declared.ask.KeptAsk.{KeptAsk}
+use Rattle.events.specs.declared.ask.KeptAsk.{KeptAsk}
 use Rattle.nodeasks.specs.declared.ask_row.AskRow.{AskRow}
 use Rattle.nodeasks.specs.Rows.{is_over, HaveRows, is_lost, row_endings}
 use Rattle.nodeasks.proofs.CountLemmas.{rows_counted, filter_endings, few_stay, passes_neither}

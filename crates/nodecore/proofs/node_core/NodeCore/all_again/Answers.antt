@@ -4,7 +4,7 @@ use Rattle.protocol.specs.Farm.{farm_limits}
 use Rattle.protocol.specs.Machine.{Message, hello}
 use Rattle.nodeasks.specs.declared.ask_row.AskRow.{AskRow}
 use Rattle.nodecore.specs.Shown.{place, shown}
-use Rattle.nodecore.proofs.MapLemmas.{drop_end}
+use Rattle.nodecontents.proofs.MapLemmas.{drop_end}
 use Rattle.nodeasks.proofs.RowLemmas.{kept_at}
 use Rattle.nodecore.proofs.AgainLemmas.{again_rows, all_again_rows}
 use Rattle.nodecore.proofs.node_core.NodeCore.all_again.Goals as goal

@@ -1,15 +1,14 @@
 use Rattle.std.proofs.Common.{◌≡◌, ◌+◌, [], List, true, false, refl, ap, sym, subst, ◌∙◌, rules, arith}
 use Rattle.protocol.specs.Nodes.{HeldGrant, held, all_stored}
-use Rattle.protocol.specs.declared.ask.KeptAsk.{KeptAsk}
-use Rattle.protocol.specs.declared.ask.KeptAsk.TheVariants.{Running}
+use Rattle.events.specs.declared.ask.KeptAsk.{KeptAsk}
+use Rattle.events.specs.declared.ask.KeptAsk.TheVariants.{Running}
 use Rattle.nodeasks.specs.Asks.{slots_in, runs}
 use Rattle.nodecore.specs.Shown.{shown}
 use Rattle.nodeasks.specs.Tickets.{AreIndexed}
-use Rattle.nodecore.proofs.FirstLemmas.{FirstAt, some_first, none_first}
+use Rattle.nodecore.proofs.FirstLemmas.{FirstAt, first_is, some_first, none_first}
 use Rattle.nodecore.proofs.KeptLemmas.{held_ask, held_at, kept_is, read_row}
-use Rattle.nodecore.proofs.NodeLemmas.{begins_not, begins_missing, begins, becomes_now}
+use Rattle.nodecore.proofs.NodeLemmas.{begins_not, begins_missing, begins, becomes_now, has_bases}
 use Rattle.nodeasks.proofs.RowLemmas.{kept_at}
-use Rattle.nodecore.proofs.StoredLemmas.{first_is, has_bases}
 use Rattle.nodeasks.proofs.TicketLemmas.{indexed_changed, runs_less}
 use Rattle.nodecore.proofs.node_core.NodeCore.begin.Goals as goal
 

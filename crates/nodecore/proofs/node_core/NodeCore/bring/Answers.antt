@@ -5,9 +5,9 @@ use Rattle.protocol.specs.World.{keep}
 use Rattle.protocol.specs.Names.{Digest}
 use Rattle.protocol.specs.Nodes.{is_base}
 use Rattle.nodecore.specs.Shown.{shown, work_of}
-use Rattle.nodecore.specs.Stored.{store_in, store_one}
+use Rattle.nodecontents.specs.Stored.{store_in, store_one}
 use Rattle.nodecore.proofs.NodeLemmas.{brings}
-use Rattle.nodecore.proofs.StoredLemmas.{store_one-new}
+use Rattle.nodecontents.proofs.StoredLemmas.{store_one-new}
 use Rattle.nodecore.proofs.node_core.NodeCore.bring.Goals as goal
 
 pub returns-clause-work : goal.returns-clause-work

@@ -1,7 +1,7 @@
 use Rattle.std.proofs.Common.{◌+◌, [], ap, sym, ◌∙◌, arith}
 use Rattle.protocol.specs.World.{Node}
 use Rattle.protocol.specs.Nodes.{dropped, finished}
-use Rattle.protocol.specs.declared.answer.NodeNote.TheVariants as note
+use Rattle.events.specs.declared.answer.NodeNote.TheVariants as note
 use Rattle.nodecore.specs.Shown.{shown, work_of}
 use Rattle.nodecore.proofs.FirstLemmas.{FirstAt, some_first, none_first}
 use Rattle.nodecore.proofs.node_core.NodeCore.drop_news.Goals as goal

@@ -5,7 +5,7 @@ use Rattle.protocol.specs.Machine.{Message, GrantedSlot}
 use Rattle.protocol.specs.Nodes.{fetches, fetches_of, is_missing}
 use Rattle.nodecore.specs.Shown.{shown, place}
 use Rattle.nodecore.proofs.FetchLemmas.{fetches_slot, fetches_end}
-use Rattle.nodecore.proofs.MapLemmas.{drop_end}
+use Rattle.nodecontents.proofs.MapLemmas.{drop_end}
 use Rattle.nodecore.proofs.node_core.NodeCore.fetches.Goals as goal
 use Rattle.nodecore.proofs.node_core.NodeCore.fetches.Goals.{then-is_missing+in_ok-push_fetches, else-is_missing}
 

@@ -3,8 +3,8 @@ use Rattle.std.proofs.lemmas.Option.{get_or_from_slice_get}
 use Rattle.protocol.specs.Farm.{farm_limits}
 use Rattle.protocol.specs.Lists.{nth}
 use Rattle.protocol.specs.World.{keeps}
-use Rattle.protocol.specs.declared.ask.KeptAsk.{KeptAsk}
-use Rattle.protocol.specs.declared.ask.KeptAsk.TheVariants.{Open}
+use Rattle.events.specs.declared.ask.KeptAsk.{KeptAsk}
+use Rattle.events.specs.declared.ask.KeptAsk.TheVariants.{Open}
 use Rattle.protocol.specs.Nodes.{granted}
 use Rattle.nodeasks.specs.declared.ask_row.AskRow.{AskRow}
 use Rattle.nodeasks.specs.Asks.{is_open}

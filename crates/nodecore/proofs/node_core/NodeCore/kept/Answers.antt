@@ -5,8 +5,8 @@ use Rattle.protocol.specs.Names.{Digest}
 use Rattle.protocol.specs.Nodes.{restarted}
 use Rattle.protocol.specs.World.{first_node}
 use Rattle.nodecore.specs.Shown.{shown}
-use Rattle.nodecore.specs.Stored.{kept_node, known_in, learn_all, HaveOneDigestEach}
-use Rattle.nodecore.proofs.StoredLemmas.{known_are, distinct_have_one}
+use Rattle.nodecontents.specs.Stored.{kept_node, known_in, learn_all, HaveOneDigestEach}
+use Rattle.nodecontents.proofs.StoredLemmas.{known_are, distinct_have_one}
 use Rattle.nodecore.proofs.node_core.NodeCore.kept.Goals as goal
 
 pub returns-clause-node : goal.returns-clause-node

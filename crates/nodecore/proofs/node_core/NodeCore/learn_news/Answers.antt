@@ -1,12 +1,13 @@
 use Rattle.std.proofs.Common.{◌≡◌, ◌+◌, List, [], map, ap, sym, ◌∙◌, arith}
 use Rattle.protocol.specs.Machine.{Confirmed}
 use Rattle.protocol.specs.World.{Node, learn_versions}
-use Rattle.protocol.specs.declared.ask.KeptAsk.TheVariants.{Over}
+use Rattle.events.specs.declared.ask.KeptAsk.TheVariants.{Over}
 use Rattle.protocol.specs.Nodes.{becomes, learned, finished}
-use Rattle.protocol.specs.declared.answer.How.TheVariants as how
-use Rattle.protocol.specs.declared.answer.NodeNote.TheVariants as note
-use Rattle.nodecore.specs.Shown.{shown, version_of, work_of, known_in, learn_all}
-use Rattle.nodecore.proofs.MapLemmas.{versions_learned, same_known}
+use Rattle.events.specs.declared.answer.How.TheVariants as how
+use Rattle.events.specs.declared.answer.NodeNote.TheVariants as note
+use Rattle.nodecontents.specs.Stored.{known_in, learn_all, version_of}
+use Rattle.nodecore.specs.Shown.{shown, work_of}
+use Rattle.nodecontents.proofs.MapLemmas.{versions_learned, same_known}
 use Rattle.nodecore.proofs.FirstLemmas.{FirstAt, some_first, none_first}
 use Rattle.nodecore.proofs.node_core.NodeCore.learn_news.Goals as goal
 

@@ -4,12 +4,13 @@ use Rattle.std.proofs.lemmas.Option.{slice_get-get_or}
 use Rattle.farm_base.specs.Contents.{content_digest}
 use Rattle.protocol.specs.Names.{Digest}
 use Rattle.protocol.specs.Machine.{News, commit}
-use Rattle.protocol.specs.declared.ask.KeptAsk.{KeptAsk}
-use Rattle.protocol.specs.declared.ask.KeptAsk.TheVariants.{Finished}
+use Rattle.events.specs.declared.ask.KeptAsk.{KeptAsk}
+use Rattle.events.specs.declared.ask.KeptAsk.TheVariants.{Finished}
 use Rattle.protocol.specs.Nodes.{Left, news_of, stored}
 use Rattle.nodeasks.specs.declared.ask_row.AskRow.{AskRow}
 use Rattle.nodeasks.specs.Asks.{ends_with}
-use Rattle.nodecore.specs.Shown.{shown, place, store_in}
+use Rattle.nodecontents.specs.Stored.{store_in}
+use Rattle.nodecore.specs.Shown.{shown, place}
 use Rattle.nodeasks.specs.Tickets.{AreIndexed}
 use Rattle.nodecore.proofs.KeptLemmas.{any_row}
 use Rattle.nodecore.proofs.NodeLemmas.{left_work, set_at}

@@ -2,8 +2,8 @@ use Rattle.std.proofs.Common.{◌≡◌, ◌+◌, [], List, get_or, ap, sym, sub
 use Rattle.std.proofs.lemmas.Option.{get_or_from_slice_get}
 use Rattle.protocol.specs.World.{Node}
 use Rattle.protocol.specs.Nodes.{recalled, recallable}
-use Rattle.protocol.specs.declared.answer.NodeNote.TheVariants as note
-use Rattle.protocol.specs.declared.ask.KeptAsk.{KeptAsk}
+use Rattle.events.specs.declared.answer.NodeNote.TheVariants as note
+use Rattle.events.specs.declared.ask.KeptAsk.{KeptAsk}
 use Rattle.nodeasks.specs.Asks.{recalls}
 use Rattle.nodecore.specs.Shown.{shown, work_of}
 use Rattle.nodeasks.specs.Tickets.{AreIndexed}

@@ -4,14 +4,15 @@ use Rattle.protocol.specs.Farm.{farm_limits}
 use Rattle.protocol.specs.Lists.{set_nth}
 use Rattle.protocol.specs.Machine.{Grant, GrantedSlot}
 use Rattle.protocol.specs.World.{learn_bases}
-use Rattle.protocol.specs.declared.ask.KeptAsk.{KeptAsk}
-use Rattle.protocol.specs.declared.ask.KeptAsk.TheVariants.{Holding}
+use Rattle.events.specs.declared.ask.KeptAsk.{KeptAsk}
+use Rattle.events.specs.declared.ask.KeptAsk.TheVariants.{Holding}
 use Rattle.protocol.specs.Nodes.{fetches}
-use Rattle.protocol.specs.declared.answer.NodeNote.TheVariants as note
+use Rattle.events.specs.declared.answer.NodeNote.TheVariants as note
 use Rattle.nodeasks.specs.Asks.{holds}
-use Rattle.nodecore.specs.Shown.{shown, place, base_of, known_in, learn_all}
+use Rattle.nodecontents.specs.Stored.{base_of, known_in, learn_all}
+use Rattle.nodecore.specs.Shown.{shown, place}
 use Rattle.nodeasks.specs.Tickets.{may_have, AreIndexed}
-use Rattle.nodecore.proofs.MapLemmas.{bases_learned, same_known}
+use Rattle.nodecontents.proofs.MapLemmas.{bases_learned, same_known}
 use Rattle.nodecore.proofs.NodeLemmas.{set_at}
 use Rattle.nodeasks.proofs.RowLemmas.{kept_at}
 use Rattle.nodeasks.proofs.TicketLemmas.{indexed_held, indexed_more, indexed_same, noted_here, noted_more}

@@ -12,7 +12,7 @@ use Rattle.versions.specs.Lines.{line_at}
 use Rattle.versions.specs.Ordered.{AreLines}
 use Rattle.saverecord.specs.Ledgers.{ledger_of}
 use Rattle.saverecord.specs.Logs.{fits, folded_ledger, IsReadable}
-use Rattle.recordparts.specs.Relations.{no_two, clash}
+use Rattle.recordlists.specs.Relations.{no_two, clash}
 use Rattle.saverecord.proofs.FoldLemmas.{made_kept}
 use Rattle.saverecord.proofs.folded.Folded.into_record.Goals as goal
 

@@ -5,7 +5,7 @@ use Rattle.protocol.specs.Replay.{Farm, is_node, node_does}
 use Rattle.nodecore.specs.declared.node_core.NodeCore.{NodeCore}
 use Rattle.nodecore.specs.Shown.{Answers}
 use Rattle.world.specs.Tables.{called, seat, node_at}
-use Rattle.protocol.specs.declared.answer.EventRefusal.{EventRefusal}
+use Rattle.events.specs.declared.answer.EventRefusal.{EventRefusal}
 use Rattle.world.specs.Turns.{Came}
 use Rattle.world.specs.Parts.{shown_parts}
 use Rattle.world.proofs.FewLemmas.{few}

@@ -5,11 +5,11 @@ use Rattle.protocol.specs.Farm.{farm_limits}
 use Rattle.protocol.specs.Lists.{nth}
 use Rattle.protocol.specs.Names.{NodeId}
 use Rattle.protocol.specs.Machine.{Said, Told, ToCoord}
-use Rattle.protocol.specs.declared.answer.EventNote.TheVariants as note
+use Rattle.events.specs.declared.answer.EventNote.TheVariants as note
 use Rattle.protocol.specs.Ledger.{Work, handled, begin_work}
 use Rattle.protocol.specs.Replay.{Farm, Turn, coordinated, is_node, node_does, delivered}
-use Rattle.protocol.specs.declared.answer.CoordRefusal.{CoordRefusal}
-use Rattle.protocol.specs.declared.answer.EventRefusal.{EventRefusal}
+use Rattle.events.specs.declared.answer.CoordRefusal.{CoordRefusal}
+use Rattle.events.specs.declared.answer.EventRefusal.{EventRefusal}
 use Rattle.nodecore.specs.declared.node_core.NodeCore.{NodeCore}
 use Rattle.farm_base.specs.declared.message.Message as sent
 use Rattle.farm_base.specs.declared.message.Message.TheVariants as message

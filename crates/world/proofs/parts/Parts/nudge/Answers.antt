@@ -3,7 +3,7 @@ use Rattle.protocol.specs.Farm.{farm_limits}
 use Rattle.protocol.specs.Ledger.{begin_work, nudged}
 use Rattle.protocol.specs.Machine.{Told}
 use Rattle.protocol.specs.Replay.{Farm}
-use Rattle.protocol.specs.declared.answer.EventNote.TheVariants as note
+use Rattle.events.specs.declared.answer.EventNote.TheVariants as note
 use Rattle.farm_base.specs.declared.message.Message as sent
 use Rattle.coordinator.specs.Held.{ledger}
 use Rattle.world.specs.Parts.{shown_parts}

@@ -1,7 +1,7 @@
 use Rattle.std.proofs.Common.{◌≡◌, true, List, Err, length, sym, subst}
 use Rattle.protocol.specs.Names.{NodeId}
 use Rattle.protocol.specs.Replay.{Farm, is_node}
-use Rattle.protocol.specs.declared.answer.EventRefusal.{EventRefusal}
+use Rattle.events.specs.declared.answer.EventRefusal.{EventRefusal}
 use Rattle.nodecore.specs.declared.node_core.NodeCore.{NodeCore}
 use Rattle.world.specs.Tables.{seat, node_at, Restarts}
 use Rattle.world.specs.Turns.{Came, restarting}

@@ -5,9 +5,9 @@ use Rattle.protocol.specs.Farm.{farm_limits}
 use Rattle.protocol.specs.Ledger.{Work, begin_work, retired}
 use Rattle.protocol.specs.Machine.{Told}
 use Rattle.protocol.specs.Replay.{Farm, is_node, coordinated, refused}
-use Rattle.protocol.specs.declared.answer.EventNote.TheVariants as note
-use Rattle.protocol.specs.declared.answer.EventRefusal.TheVariants as refusal
-use Rattle.protocol.specs.declared.answer.CoordRefusal.{CoordRefusal}
+use Rattle.events.specs.declared.answer.EventNote.TheVariants as note
+use Rattle.events.specs.declared.answer.EventRefusal.TheVariants as refusal
+use Rattle.events.specs.declared.answer.CoordRefusal.{CoordRefusal}
 use Rattle.farm_base.specs.declared.message.Message as sent
 use Rattle.coordinator.specs.Held.{ledger}
 use Rattle.world.specs.Parts.{shown_parts, with_coordinator}

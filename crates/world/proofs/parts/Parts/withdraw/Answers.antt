@@ -4,8 +4,8 @@ use Rattle.protocol.specs.Farm.{farm_limits}
 use Rattle.protocol.specs.Ledger.{Work, begin_work, withdrawn}
 use Rattle.protocol.specs.Machine.{Told}
 use Rattle.protocol.specs.Replay.{Farm, coordinated}
-use Rattle.protocol.specs.declared.answer.EventNote.TheVariants as note
-use Rattle.protocol.specs.declared.answer.CoordRefusal.{CoordRefusal}
+use Rattle.events.specs.declared.answer.EventNote.TheVariants as note
+use Rattle.events.specs.declared.answer.CoordRefusal.{CoordRefusal}
 use Rattle.farm_base.specs.declared.message.Message as sent
 use Rattle.coordinator.specs.Held.{ledger}
 use Rattle.world.specs.Parts.{shown_parts, with_coordinator}

@@ -5,9 +5,9 @@ use Rattle.farm_base.specs.declared.limits.TheConstants.{NODES}
 use Rattle.protocol.specs.Farm.{farm_limits}
 use Rattle.protocol.specs.Lawful.{IsLawfulFarm}
 use Rattle.protocol.specs.Replay.{Farm, step}
-use Rattle.protocol.specs.declared.event.Event.{Event}
-use Rattle.protocol.specs.declared.answer.Outcome.{Outcome}
-use Rattle.protocol.specs.declared.answer.EventRefusal.{EventRefusal}
+use Rattle.events.specs.declared.event.Event.{Event}
+use Rattle.events.specs.declared.answer.Outcome.{Outcome}
+use Rattle.events.specs.declared.answer.EventRefusal.{EventRefusal}
 use Rattle.world.specs.Shown.{shown}
 use Rattle.world.specs.Parts.{shown_parts}
 use Rattle.world.specs.Turns.{Came}

@@ -1,0 +1,14 @@
+use Rattle.std.proofs.Common.{◌≡◌, List, length, ap, ◌∙◌, arith}
+use Rattle.protocol.specs.Machine.{Parked}
+use Rattle.protocol.specs.Farm.{farm_limits}
+use Rattle.drafts.specs.Held.{Held, ledger}
+use Rattle.drafts.proofs.Sends.{handled_few}
+use Rattle.parked.specs.Queue.{asks_of}
+use Rattle.ledger.specs.Seen.{Seen}
+use Rattle.coordinator.proofs.coordinator.Coordinator.most_sends.Goals as goal
+
+pub returns : goal.returns
+returns g c = λ y.
+    let waiting : length c.waiting.result.now ≡ length (asks_of c.state.result.now.parked) = ap (λ (ps : List Parked). length ps) c.waiting.ensures in
+    let parked : length (asks_of c.state.result.now.parked) ≡ length c.args.self.now.held.parked = ap (λ (h : Held). length h.parked) (c.state.ensures.held ∙ ap (λ (s : Seen g.row.K.Denot). s.held) c.self.view_is) in
+    omega (arith, handled_few farm_limits y (ledger c.args.self.now.held), parked, waiting)

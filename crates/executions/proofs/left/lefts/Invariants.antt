@@ -1,8 +1,0 @@
-use Rattle.std.proofs.Common.{◌≡◌, ◌++◌, drop}
-use Rattle.executions.specs.Seen.{folder_seen}
-use Rattle.executions.specs.Left.{lefts}
-use Rattle.executions.proofs.left.lefts.Given as goal
-
--- all is what is there so far, and what the others leave
-abbrev pub invariant-loop-slot : goal.invariant-loop-slot
-invariant-loop-slot l = lefts (folder_seen l.seen.leased l.seen.shared) l.changed l.slots ≡ l.lefts.items ++ lefts (folder_seen l.seen.leased l.seen.shared) l.changed (drop l.slot-index l.slots)

@@ -1,7 +1,0 @@
-use denote.Param.Send.{sendable}
-use Rattle.std.proofs.Crossing.{crosses}
-use Rattle.farm.proofs.Crosses.{common}
-use Rattle.farm.proofs.many.solve_all.Goals as goal
-
-pub run_threads-ends-requires-sync-S : goal.run_threads-ends-requires-sync-S
-run_threads-ends-requires-sync-S g c κs within = search (sendable, crosses, common) depth 60 fits 1000000

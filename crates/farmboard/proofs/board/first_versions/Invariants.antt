@@ -1,6 +1,0 @@
-use Rattle.std.proofs.Common.{◌≡◌, map, take}
-use Rattle.farmboard.specs.Ends.{version_of}
-use Rattle.farmboard.proofs.board.first_versions.Given as goal
-
-abbrev pub invariant-loop-left : goal.invariant-loop-left
-invariant-loop-left l = l.versions.items ≡ map version_of (take l.left-index l.lefts)

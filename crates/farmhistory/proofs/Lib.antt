@@ -1,0 +1,9 @@
+pub mod BaseLemmas
+pub mod FarmLemmas
+pub mod HistoryLemmas
+pub mod LineLemmas
+pub mod NodeLemmas
+pub mod NoteLemmas
+pub mod ReplayLemmas
+pub mod TicketLemmas
+pub mod UseLemmas

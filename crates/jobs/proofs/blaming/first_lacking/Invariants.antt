@@ -1,7 +1,0 @@
-use Rattle.std.proofs.Common.{◌≡◌, ◌<◌, ℕ, Some, slice_get}
-use Rattle.farm_base.specs.declared.digest.Key.{Key}
-use Rattle.jobs.specs.Failing.{LacksOutput}
-use Rattle.jobs.proofs.blaming.first_lacking.Given as goal
-
-abbrev pub invariant-loop-input : goal.invariant-loop-input
-invariant-loop-input l = (k : ℕ) (input : Key × ℕ) → k < l.input-index → slice_get l.inputs k ≡ Some input → LacksOutput l.table.entries.items input → ⊥

@@ -1,7 +1,0 @@
-use Rattle.std.proofs.Common.{take}
-use Rattle.std.specs.List.{AllZip}
-use Rattle.jobs.specs.Failing.{HasOutput}
-use Rattle.jobs.proofs.ready.outputs_of.Given as goal
-
-abbrev pub invariant-loop-input : goal.invariant-loop-input
-invariant-loop-input l = AllZip (HasOutput l.table.entries.items) (take l.input-index l.inputs) l.outputs.items

@@ -1,0 +1,11 @@
+pub mod AddLemmas
+pub mod CauseLemmas
+pub mod MarkLemmas
+pub mod NeedLemmas
+pub mod OutputLemmas
+pub mod ProgressLemmas
+pub mod ReachLemmas
+pub mod ShapeLemmas
+pub mod SpreadLemmas
+pub mod TableLemmas
+pub mod UserLemmas

@@ -1,0 +1,7 @@
+use Rattle.std.proofs.Common.{◌≡◌, ◌<◌, ℕ, Some, slice_get}
+use Rattle.farm_base.specs.declared.digest.Key.{Key}
+use Rattle.keytable.specs.Failing.{LacksOutput}
+use Rattle.keytable.proofs.blaming.first_lacking.Given as goal
+
+abbrev pub invariant-loop-input : goal.invariant-loop-input
+invariant-loop-input l = (k : ℕ) (input : Key × ℕ) → k < l.input-index → slice_get l.inputs k ≡ Some input → LacksOutput l.table.entries.items input → ⊥

@@ -1,0 +1,11 @@
+pub mod Adding
+pub mod Causes
+pub mod Failing
+pub mod Kept
+pub mod Marks
+pub mod Needs
+pub mod Reaching
+pub mod Searching
+pub mod Spreading
+pub mod Tables
+pub mod Users

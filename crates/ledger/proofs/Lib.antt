@@ -1,0 +1,4 @@
+pub mod Entries
+pub mod Growing
+pub mod Keeping
+pub mod Records

@@ -1,0 +1,4 @@
+pub mod Keeping
+pub mod Prepared
+pub mod Seen
+pub mod Settling

@@ -1,0 +1,12 @@
+//! What a coordinator keeps, and how it is saved.
+#![tactic(auto)]
+
+mod handled;
+mod ledger;
+mod nodes;
+mod record;
+mod table_room;
+mod text;
+
+pub use handled::Handled;
+pub use ledger::Ledger;

@@ -1,7 +1,0 @@
-use Rattle.std.proofs.Common.{◌≡◌, ◌++◌, drop}
-use Rattle.farm_base.specs.Contents.{content_digest}
-use Rattle.protocol.specs.Nodes.{news_of}
-use Rattle.nodecore.proofs.contents.news_of.Given as goal
-
-abbrev pub invariant-loop-left : goal.invariant-loop-left
-invariant-loop-left l = l.news.items ++ news_of content_digest (drop l.left-index l.lefts) ≡ news_of content_digest l.lefts

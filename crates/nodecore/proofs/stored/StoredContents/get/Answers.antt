@@ -1,5 +1,0 @@
-use Rattle.nodecore.proofs.StoredLemmas.{found_keyed}
-use Rattle.nodecore.proofs.stored.StoredContents.get.Goals as goal
-
-pub returns-clause-digest : goal.returns-clause-digest
-returns-clause-digest c = found_keyed c.args.self.now.by_digest c.args.digest.now c.get.result c.args.self.now.stored c.get.ensures.value

@@ -1,9 +1,0 @@
-use Rattle.std.proofs.Common.{List, ℕ, ap, ◌∙◌}
-use Rattle.farm_base.specs.Contents.{content_digest}
-use Rattle.protocol.specs.World.{first_node}
-use Rattle.nodecore.specs.Stored.{store_each}
-use Rattle.nodecore.proofs.StoredLemmas.{stored_are}
-use Rattle.nodecore.proofs.stored.StoredContents.values.Goals as goal
-
-pub returns : goal.returns
-returns c = ap (λ (cs : List (List ℕ)). store_each cs (first_node content_digest).store) c.values.ensures.rest ∙ stored_are c.args.self.now.by_digest c.args.self.now.stored

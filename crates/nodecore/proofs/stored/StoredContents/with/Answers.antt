@@ -1,6 +1,0 @@
-use Rattle.std.proofs.Common.{ap, ◌∙◌}
-use Rattle.nodecore.specs.Stored.{store_each}
-use Rattle.nodecore.proofs.stored.StoredContents.with.Goals as goal
-
-pub returns : goal.returns
-returns c = c.store_each.ensures ∙ ap (store_each c.args.contents.items) (c.reserve.ensures.same ∙ c.in_ok-stored.ensures)

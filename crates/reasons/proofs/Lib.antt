@@ -1,0 +1,3 @@
+mod AnswerLemmas
+mod NewsLemmas
+pub mod SolvedLemmas

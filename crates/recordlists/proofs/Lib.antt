@@ -1,0 +1,4 @@
+pub mod EntryLoop
+pub mod Rows
+pub mod EntryLaws
+pub mod PartLaws

@@ -1,0 +1,4 @@
+pub mod Entries
+pub mod EntrySpelling
+pub mod EntryFits
+pub mod Relations

@@ -1,0 +1,3 @@
+pub mod Batches
+pub mod Left
+pub mod Seen
