@@ -27,7 +27,7 @@ pub enum LoadRefusal {
     OutOfMemory,
 }
 
-// By hand, and not by an attribute a case: each case costs a proof its steps then.
+// By hand: written by an attribute for each case, the text takes longer to prove.
 impl LoadRefusal {
     /// The place that it names, if it names one.
     fn place(self) -> Option<usize> {

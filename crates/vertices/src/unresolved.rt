@@ -88,7 +88,7 @@ impl Asked {
 }
 
 impl Entry {
-    /// Reads the entry at a place. Nothing is copied of it.
+    /// Reads the entry at a place. Of its bytes only what is spelled in several parts is copied.
     pub(crate) fn read(alloc: Global, place: usize, bytes: &[u8]) -> Result<Self, LoadRefusal>
         ensures check { Meets (ReadCheck place bytes.now) result }
         ensures entry { IfOk result (IsEntry place bytes.now) }
