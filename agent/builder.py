@@ -72,7 +72,7 @@ class Buildah:
         env = {"PATH": os.environ["PATH"], "HOME": self.home, "TMPDIR": f"{self.home}/tmp"}
         spec = {"command": self._words(*words), "cwd": "/", "env": env, "binds": [], "parent": os.getpid(), "namespace": False}
         with launcher(spec) as (call, said):
-            return subprocess.run(call, pass_fds=said, stdin=subprocess.DEVNULL, capture_output=True, text=True)
+            return subprocess.run(call, pass_fds=said, stdin=subprocess.DEVNULL, capture_output=True, text=True, errors="replace")
 
     def base_of(self, name: str) -> Base:
         done = self._call("inspect", "--type", "image", name)

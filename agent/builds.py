@@ -149,6 +149,10 @@ class Build:
             command, asked.context, env, wants, asked.wait, asked.on_lost == "stop", asked.keep_failed, FENCED_BUILD, LOST, OF_SHARED,
             filled, left,
         )
+        return self._settled(job, image)
+
+    def _settled(self, job: Job, image: Image) -> int:
+        """Runs the build under its lease. The status, once the image is tagged or it is told why not."""
         run = Run(self.builds.agent, job, self.caller)
         try:
             status = run.run()

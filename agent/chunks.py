@@ -34,7 +34,7 @@ def table(index: bytes) -> range:
         size, kind = struct.unpack_from("<QQ", index, 0)
         table_size, table = struct.unpack_from("<QQ", index, size)
         *_, tail = struct.unpack_from("<QQQQQ", index, len(index) - 40)
-    except struct.error:
+    except (struct.error, OverflowError):
         raise FarmFault("a content is no index of casync: it is cut short") from None
     items = len(index) - size - 16 - 40
     if (size, kind, table_size, table, tail) != (48, INDEX, 2**64 - 1, TABLE, TAIL) or items < 0 or items % 40:

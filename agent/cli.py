@@ -14,7 +14,7 @@ import time
 from typing import Any, Callable, Iterator, Sequence
 
 from agent import client
-from agent.faults import LOST, MISSING, FarmFault, UsageFault
+from agent.faults import FAULT, LOST, MISSING, FarmFault, UsageFault
 from agent.words import version_of, want_of
 
 LAST = 3  # versions of a folder that `status --json` and the page tell
@@ -141,7 +141,7 @@ def do_coordinator(args: argparse.Namespace) -> int:
 
 def do_node(args: argparse.Namespace) -> int:
     if not 1 <= args.number <= args.nodes:
-        raise UsageFault(f"this farm has the nodes 1 to {args.nodes}: --nodes says so")
+        raise UsageFault(f"there is no node {args.number} of {args.nodes}: --nodes says how many the farm has")
     return _serve(args, False, [args.number])
 
 
@@ -224,10 +224,11 @@ def do_run(args: argparse.Namespace) -> int:
 def do_build(args: argparse.Namespace) -> int:
     from agent.builds import PASSED, BuildAsked
 
-    given = (word.partition("=") for word in args.build_arg)
+    given = [word.partition("=") for word in args.build_arg]
     asked = BuildAsked(
         context=os.path.abspath(args.context), cwd=os.getcwd(), file=args.file, tag=args.tag, target=args.target,
-        build_args={key: value if equals else os.environ.get(key, "") for key, equals, value in given}, format=args.format,
+        build_args={key: value if equals else os.environ[key] for key, equals, value in given if equals or key in os.environ},
+        format=args.format,
         wait=args.wait, on_lost=args.on_lost, shared_as=args.shared_as, keep_failed=args.keep_failed, tag_fenced=args.tag_fenced,
         env={key: value for key, value in os.environ.items() if key in PASSED},
     )
@@ -371,11 +372,16 @@ def main(words: Sequence[str] | None = None) -> int:
     except SystemExit as ended:
         return 64 if ended.code else 0
     args.home = os.path.abspath(args.home)
+    if getattr(args, "contents", None):
+        args.contents = os.path.abspath(args.contents)
     try:
         return int(args.does(args))
     except FarmFault as fault:
         print(f"farm: {fault}", file=sys.stderr)
         return fault.status
+    except OSError as fault:
+        print(f"farm: {fault.filename}: {fault.strerror}" if fault.filename else f"farm: {fault}", file=sys.stderr)
+        return FAULT
     except SystemExit as ended:
         return int(ended.code or 0)
     except KeyboardInterrupt:

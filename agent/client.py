@@ -54,7 +54,7 @@ def ask(path: str, what: dict[str, Any], shows: bool = True) -> Asked:
                     heard = True
                     if _take(asked, json.loads(raw), shows):
                         return asked
-        except OSError:
+        except (OSError, ValueError):  # it ended, amid a line maybe
             pass
         finally:
             for number, handler in before.items():

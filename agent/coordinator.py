@@ -5,6 +5,7 @@ withdrawn too early costs its holder a build and nothing else, so the agent may 
 """
 from __future__ import annotations
 
+import contextlib
 import tempfile
 import threading
 import time
@@ -27,14 +28,13 @@ SILENT_LEAST = 3 * HEARTBEAT  # seconds: a shorter silence says nothing
 
 class CoordinatorAgent:
     def __init__(self, setup: Setup, lease_timeout: float | None = None) -> None:
-        if lease_timeout is not None and lease_timeout < SILENT_LEAST:
-            raise UsageFault(f"a node that is well may be silent for some seconds: --lease-timeout is at least {SILENT_LEAST:g}")
         self.setup, self.lease_timeout = setup, lease_timeout
         self.hints = Hints(setup.key)
         self.since: dict[int, float] = {}  # of a ticket: when this agent saw it granted
-        self.heard: dict[int, float] = {}  # of a node
+        self.heard: dict[int, float] = {}  # of a node: the time of day at which it was heard
+        self.spoke: dict[int, float] = {}  # of a node: the same by the clock that nobody sets
         self.last: dict[str, tuple[int, list[dict[str, Any]]]] = {}  # of a slot: its last number, and its last versions
-        self.begun = time.time()
+        self.begun = time.monotonic()
         self.lock = threading.Lock()
         self.telling = threading.Lock()
         words = ["coordinator", "--record", f"{setup.home}/record", "--key", setup.key]
@@ -75,13 +75,14 @@ class CoordinatorAgent:
         return self.talk.call(line)
 
     def question(self, line: str) -> Answer:
-        """A line that changes nothing, so that it may be said again."""
+        """The answer to a line that changes nothing, so that it may be said again."""
         for _ in range(3):
-            try:
-                return self.call(line)
-            except LifeOver:
-                pass
-        return self.call(line)
+            with contextlib.suppress(LifeOver):
+                answer = self.call(line)
+                if answer.is_refused:
+                    raise FarmFault(f"the coordinator doesn't answer {line!r}: {answer.note}")
+                return answer
+        raise FarmFault("the coordinator ends again and again")
 
     def serve(self) -> None:
         """Hears messages for ever, sends its grants again now and then, and withdraws the leases of nodes that fell silent."""
@@ -123,12 +124,15 @@ class CoordinatorAgent:
         notes = [answer.note for answer in self.talk.calls([f"m {line}" for line in passed])] if passed else []
         for line, note in zip(passed, notes):
             if not note.startswith(("dropped", "refused")):
-                self.heard[int(line.split(" ", 2)[1])] = time.time()
+                self._was_heard(int(line.split(" ", 2)[1]))
         return notes
+
+    def _was_heard(self, node: int) -> None:
+        self.heard[node], self.spoke[node] = time.time(), time.monotonic()
 
     def _hear_hint(self, words: list[str]) -> None:
         if words[0] == "here":
-            self.heard[int(words[1])] = time.time()
+            self._was_heard(int(words[1]))
         if words[0] == "who":
             node, ask, folders = int(words[1]), words[2], set(words[3:])
             held = self.holders(node, folders)
@@ -161,7 +165,7 @@ class CoordinatorAgent:
         if self.lease_timeout is None:
             return
         for lease in self.status()["leases"]:
-            silent = time.time() - self.heard.get(lease["node"], self.begun)
+            silent = time.monotonic() - self.spoke.get(lease["node"], self.begun)
             if silent > self.lease_timeout and lease["kind"] != "tenure":
                 self.log(f"node {lease['node']} wasn't heard for {silent:.0f} s: its lease {lease['ticket']} is withdrawn")
                 self.call(line_of("withdraw", str(lease["ticket"])))
@@ -223,10 +227,7 @@ class CoordinatorAgent:
 
     def needed(self, keep: int) -> set[str]:
         """The digests of the last versions of each slot, and all that the filter says are needed."""
-        answer = self.question("needed")
-        if answer.is_refused:
-            raise FarmFault(f"the coordinator doesn't say what is needed: {answer.note}")
-        needed = {fact for fact in answer.facts if DIGEST.fullmatch(fact)}
+        needed = {fact for fact in self.question("needed").facts if DIGEST.fullmatch(fact)}
         for each in self.status()["folders"]:
             needed.update(version["digest"] for version in self.versions(each["slot"])[-keep:])
         return needed
@@ -248,8 +249,10 @@ class CoordinatorAgent:
                     last = Filter([self.setup.program, *words])
                 except FilterGone as gone:
                     raise FarmFault(f"no life of node {node} can be begun: {gone.said}") from None
-                self.receive(last.greeting.sends)
-                last.close()
+                try:
+                    self.receive(last.greeting.sends)
+                finally:
+                    last.close()
         try:
             return self.operate("retire", str(node))
         except FarmFault as fault:

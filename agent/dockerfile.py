@@ -7,6 +7,7 @@ that the builder can't run them. All other text the builder reads as its author 
 from __future__ import annotations
 
 import json
+import os
 import re
 from dataclasses import dataclass, field
 from typing import Callable
@@ -87,7 +88,8 @@ class Planner:
 
     def __init__(self, text: str, build_args: dict[str, str], base_of: Callable[[str], Base], shared_as: str) -> None:
         self.text, self.base_of, self.shared_as = text, base_of, shared_as
-        platform = {"TARGETPLATFORM": "linux/amd64", "TARGETOS": "linux", "TARGETARCH": "amd64", "TARGETVARIANT": ""}
+        arch = {"x86_64": "amd64", "aarch64": "arm64"}.get(os.uname().machine, os.uname().machine)
+        platform = {"TARGETPLATFORM": f"linux/{arch}", "TARGETOS": "linux", "TARGETARCH": arch, "TARGETVARIANT": ""}
         self.platform = platform | {key.replace("TARGET", "BUILD"): value for key, value in platform.items()}
         self.given = self.platform | build_args
         self.heading: dict[str, str] = {}
@@ -175,6 +177,9 @@ class Planner:
         name = self._base_name(stage)
         before = self._called(name, stage)
         if before:
+            for instruction in before.body:
+                if instruction.keyword == "ONBUILD":
+                    self._check_trigger(stage, before.builder_name, instruction.rest)
             stage.env, stage.shell = dict(before.env), before.shell
         elif name != "scratch":
             base = self.base_of(name)
@@ -187,7 +192,7 @@ class Planner:
         for inner in instructions(trigger):
             for flag in flags_of(inner)[0] if inner.keyword == "RUN" else []:
                 if flag.word.startswith("--mount") and ("cache" in flag.word.lower() or "$" in flag.word):
-                    raise BadDockerfile(stage.head.line, f"the image {name} has `ONBUILD {trigger}`: its cache can't be leased")
+                    raise BadDockerfile(stage.head.line, f"{name} has `ONBUILD {trigger}`: its cache can't be leased")
 
     # Instructions.
 
@@ -227,9 +232,12 @@ class Planner:
 
     def _shell(self, stage: Stage, instruction: Instruction) -> None:
         try:
-            stage.shell = [str(word) for word in json.loads(instruction.rest)]
+            words = json.loads(instruction.rest)
         except ValueError:
-            raise BadDockerfile(instruction.line, "SHELL wants a list") from None
+            words = None
+        if not isinstance(words, list) or not all(isinstance(word, str) for word in words):
+            raise BadDockerfile(instruction.line, "SHELL wants a list of texts")
+        stage.shell = words
 
     def _run(self, stage: Stage, instruction: Instruction) -> None:
         flags, at = flags_of(instruction)

@@ -50,7 +50,7 @@ class Instruction:
     @property
     def rest_at(self) -> int:
         """Where the arguments begin."""
-        found = re.match(r"\S+\s*", self.text)
+        found = re.match(r"\s*\S+\s*", self.text)
         assert found
         return found.end()
 

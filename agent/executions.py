@@ -117,7 +117,7 @@ class Executions:
                 time.sleep(0.02)
             if time.monotonic() > told:
                 told = time.monotonic() + 60.0
-                self.log("executions of an earlier life are still there: the next one waits for their end")
+                print("farm: commands of an earlier agent of this node still run: this one begins when they have ended", file=sys.stderr, flush=True)
 
     def all_over(self) -> None:
         """Ends those that this agent knows, and waits until those of agents before it are over too."""

@@ -37,7 +37,7 @@ def checked(result: int, what: str) -> None:
 
 
 def mount(source: str, target: str, kind: str | None, flags: int) -> int:
-    return int(libc.mount(source.encode(), target.encode(), kind.encode() if kind else None, flags, None))
+    return int(libc.mount(os.fsencode(source), os.fsencode(target), kind.encode() if kind else None, flags, None))
 
 
 def status_of(waited: int) -> int:

@@ -171,7 +171,8 @@ class Talk:
             except FilterGone as gone:
                 if gone.status != LOCKED or gone.said and "Locked" not in gone.said:
                     program = os.path.basename(self.command[0])
-                    raise Missing(f"{program} doesn't start as the {self.name}: {gone.said or f'status {gone.status}'}") from None
+                    kind = FarmFault if gone.said.startswith(("refused ", "fault ", "out of memory")) else Missing
+                    raise kind(f"{program} doesn't start as the {self.name}: {gone.said or f'status {gone.status}'}") from None
                 if time.monotonic() > end:
                     raise FarmFault(f"another process is the {self.name} of this farm: its files are locked") from None
                 time.sleep(0.1)

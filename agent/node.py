@@ -238,7 +238,7 @@ class NodeAgent:
         """Waits for the lease of an ask, and tells who has it meanwhile."""
         words: list[str] = []
         told = ""
-        due = time.monotonic() + 0.3
+        due, silent = time.monotonic() + 0.3, time.monotonic() + 5.0
 
         def is_decided() -> bool:
             nonlocal words, told, due
@@ -246,11 +246,12 @@ class NodeAgent:
             if words[0] == "pending" and time.monotonic() > due:
                 due = time.monotonic() + 2.0
                 self.setup.transport.send(COORDINATOR, self.hints.seal(f"who {self.node} {ask} {' '.join(folders)}"))
-            if words[0] == "pending" and self.holders.get(ask, "") != told:
-                told = self.holders[ask]
+            held = self.holders.get(ask, "the coordinator hasn't answered yet" if time.monotonic() > silent else "")
+            if words[0] == "pending" and held and held != told:
+                told = held
                 said = patience.of_shared if any(folder.startswith("shared:") for folder in folders) else ""
                 patience.say(f"waiting for {', '.join(folders)}: {told}{said and '. '}{said}")
-            return words[0] != "pending"
+            return words[0] not in ("pending", "refused")
 
         try:
             self.wait(epoch, patience, is_decided)
@@ -309,10 +310,11 @@ class NodeAgent:
         return Ending(words[0], versions_of(words[2:]) or self.learned.get(ticket, {}))
 
     def give_back(self, ticket: int, epoch: int) -> None:
-        try:
-            self.call(f"abort {ticket}", epoch)
-        except LifeOver:
-            pass
+        with contextlib.suppress(LifeOver):
+            for _ in range(20):
+                if self.call(f"abort {ticket}", epoch).note != "refused OutOfMemory":
+                    return
+                time.sleep(0.3)
 
     def content(self, slot: Slot, epoch: int, patience: Patience) -> bytes:
         """The content that a slot begins from, once all of it is here. What the store lacks the other nodes are asked for."""
@@ -354,5 +356,6 @@ class NodeAgent:
 
     def stop(self) -> None:
         self.talk.stopped = True
-        self.executions.all_over()
-        self.talk.stop()
+        with self.talk.birth:  # no command starts between the two
+            self.executions.all_over()
+            self.talk.stop()

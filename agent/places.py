@@ -19,7 +19,7 @@ from typing import Any, Callable, Iterator
 from agent import trees
 from agent.faults import FarmFault
 from agent.standing import signature
-from agent.store import Store
+from agent.store import Store, put_file
 from agent.words import short_name
 
 
@@ -85,8 +85,7 @@ class Places:
 
     def _note(self, path: str, digest: str | None, mark: str | None) -> None:
         here = os.lstat(path)
-        with open(self._known(path), "w") as file:
-            json.dump([path, here.st_dev, here.st_ino, digest, mark], file)
+        put_file(self._known(path), json.dumps([path, here.st_dev, here.st_ino, digest, mark]).encode())
 
     def _is_ours(self, path: str) -> bool:
         here = os.lstat(path)

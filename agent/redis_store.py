@@ -117,6 +117,9 @@ class RedisStore:
             raise ChunksMissing(f"the store over Redis gave no contents: {fault}") from None
         if bad:
             raise ChunksMissing(f"{bad} chunks of a version are neither here nor, as they were sent, in the store over Redis")
+        path = f"{self.folder.indexes}/{hashlib.sha256(index).hexdigest()}"
+        if not os.path.exists(path):
+            put_file(path, index)  # all of it is here: this machine can offer it
 
     def _take(self, name: str, sealed: object) -> bool:
         """Puts a chunk into the folder, where its seal is right."""

@@ -13,7 +13,8 @@ from typing import Any, Sequence
 
 from agent.faults import Missing
 
-MOST = 64 << 20  # bytes of one value, and items of one list
+MOST = 512 << 20  # bytes of all values that come together: more than sixteen of the longest lines
+ITEM = 64  # bytes that an item of a list counts for
 DEPTH = 8  # of lists within lists
 PATIENCE = 8.0  # seconds in which some byte has to come
 LOADS = 60.0  # seconds that a server which was started just now may take to load its data
@@ -37,6 +38,7 @@ class Link:
             made = ssl.create_default_context().wrap_socket(made, server_hostname=host)
         self.socket = made
         self.stream = made.makefile("rb")
+        self.left = MOST  # bytes that may come yet
         first: list[Sequence[Word]] = []
         if url.password:
             user = [urllib.parse.unquote(url.username)] if url.username else []
@@ -54,6 +56,7 @@ class Link:
     def calls(self, commands: Sequence[Sequence[Word]]) -> list[Reply]:
         """Sends commands together, and gives the reply to each. One that was refused has a fault in its place."""
         self.socket.sendall(b"".join(spelled(command) for command in commands))
+        self.left = MOST
         return [self._reply(DEPTH) for _ in commands]
 
     def _line(self) -> bytes:
@@ -76,7 +79,8 @@ class Link:
             return number
         if number < 0:
             return None
-        if number > MOST or depth == 0:
+        self.left -= number * (ITEM if kind == b"*" else 1)
+        if self.left < 0 or depth == 0:
             raise RedisFault("a reply is too long")
         if kind == b"*":
             return [self._reply(depth - 1) for _ in range(number)]
@@ -109,7 +113,8 @@ class Redis:
                 raise RedisFault("it begins with redis:// or rediss://")
             self._greet(time.monotonic() + LOADS)
         except RedisFault as why:
-            raise Missing(f"no Redis server answers at {url}: {why}") from None
+            # without the password
+            raise Missing(f"no Redis server answers at {self.url.scheme}://{self.url.netloc.rpartition('@')[2]}: {why}") from None
 
     def _greet(self, late: float) -> None:
         while True:
@@ -122,11 +127,23 @@ class Redis:
             time.sleep(0.1)
 
     def calls(self, commands: Sequence[Sequence[Word]]) -> list[Reply]:
-        """The replies to commands that are sent together. The first that was refused is a fault."""
-        link: Link | None = None
+        """The replies to commands that are sent together, maybe twice. The first that was refused is a fault."""
+        with self.lock:
+            idle = self.idle.pop() if self.idle else None
         try:
-            with self.lock:
-                link = self.idle.pop() if self.idle else None
+            replies = self._exchange(idle, commands)
+        except RedisFault:
+            if idle is None:
+                raise
+            replies = self._exchange(None, commands)  # the server may have ended what idled
+        for reply in replies:
+            if isinstance(reply, RedisFault):
+                raise reply
+        return replies
+
+    def _exchange(self, link: Link | None, commands: Sequence[Sequence[Word]]) -> list[Reply]:
+        """The replies over a link, a new one where none is given."""
+        try:
             link = link or Link(self.url)
             replies = link.calls(commands)
         except (OSError, ValueError, RedisFault) as why:
@@ -137,9 +154,6 @@ class Redis:
             raise
         with self.lock:
             self.idle.append(link)
-        for reply in replies:
-            if isinstance(reply, RedisFault):
-                raise reply
         return replies
 
     def __del__(self) -> None:

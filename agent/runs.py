@@ -6,10 +6,8 @@ that what is named in `finish` is kept by the store.
 from __future__ import annotations
 
 import contextlib
-import os
 import signal
 import tempfile
-import threading
 import time
 from dataclasses import dataclass, field
 from typing import Callable
@@ -162,8 +160,8 @@ class Run:
         if not agent.executions.has_namespaces:
             self.caller.say("the kernel gives this agent no pid namespace: what leaves the command's session can outlive it")
         with agent.talk.birth:  # no life begins between the look and the start
-            if self.epoch != agent.talk.epoch:
-                raise LifeOver("the node began a new life")
+            if self.epoch != agent.talk.epoch or agent.talk.stopped:
+                raise LifeOver("the node began a new life, or ends")
             self.begun = True
             for tenure in tenures.values():
                 tenure.used = True

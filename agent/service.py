@@ -7,14 +7,17 @@ from __future__ import annotations
 import array
 import json
 import os
+import signal
 import socket
 import threading
+import time
 import traceback
 from typing import IO, Any, Callable
 
 from agent.faults import BAD_DOCKERFILE, FAULT, FarmFault
 
 Handler = Callable[[dict[str, Any], "Connection"], int]
+ENDING = (signal.SIGINT, signal.SIGTERM, signal.SIGHUP, signal.SIGQUIT)
 
 
 class Connection:
@@ -51,6 +54,8 @@ class Connection:
                 break
             if self.signalled:
                 self.signalled(number)
+            elif number in ENDING:  # no command runs that could hear it: it is as if its caller had gone
+                break
         self.gone = True
 
 
@@ -96,6 +101,7 @@ class Service:
     def __init__(self, path: str, handler: Handler) -> None:
         self.path, self.handler = path, handler
         self.busy = 0
+        self.closed = False
         self.lock = threading.Lock()
         if os.path.exists(path):
             os.unlink(path)
@@ -105,11 +111,12 @@ class Service:
         self.server.listen(64)
 
     def serve(self) -> None:
-        while True:
+        while not self.closed:
             try:
                 link, _ = self.server.accept()
-            except OSError:
-                return
+            except OSError:  # no descriptor is free just now, or who asked is gone again
+                time.sleep(0.1)
+                continue
             with self.lock:
                 self.busy += 1
             threading.Thread(target=self._one, args=(link,), daemon=True).start()
@@ -125,6 +132,7 @@ class Service:
                 self.busy -= 1
 
     def close(self) -> None:
+        self.closed = True
         try:
             os.unlink(self.path)
         except OSError:

@@ -13,7 +13,7 @@ from dataclasses import dataclass, field
 from typing import Any
 
 from agent.builds import Build, Builds, BuildAsked
-from agent.coordinator import CoordinatorAgent
+from agent.coordinator import SILENT_LEAST, CoordinatorAgent
 from agent.faults import LOST, FarmFault, UsageFault
 from agent.hints import Hints, make_key
 from agent.lines import line_of
@@ -21,7 +21,7 @@ from agent.node import NodeAgent, Setup
 from agent.redis_store import RedisStore
 from agent.redis_transport import RedisTransport
 from agent.runs import Job, Run
-from agent.service import Connection, Service
+from agent.service import Connection, Handler, Service
 from agent.store import FolderStore, Store
 from agent.tools import farmctl
 from agent.transport import LocalTransport, Transport
@@ -73,26 +73,32 @@ def store_of(wanted: Wanted, hints: Hints) -> Store:
     return RedisStore(wanted.broker, root, farm_name(hints), hints.chunk_key())
 
 
+def check(wanted: Wanted) -> None:
+    """Refuses what can't be served, before anything of it is made."""
+    home, mark = wanted.home, f"{wanted.home}/joined"
+    if len(home.encode()) > 80 or any(c.isspace() or c == "=" for c in home):
+        raise UsageFault(f"{home!r} is too long for a socket's path, or has a space or = in it: name another --home")
+    if wanted.lease_timeout is not None and wanted.lease_timeout < SILENT_LEAST:
+        raise UsageFault(f"a node that is well may be silent for some seconds: --lease-timeout is at least {SILENT_LEAST:g}")
+    if not wanted.broker and os.path.exists(mark):
+        raise UsageFault(f"{home} is of a farm over a broker. Where that farm is no more, remove {mark}")
+    if wanted.broker and not os.path.exists(f"{home}/key") and not wanted.coordinator:
+        raise UsageFault(f"{home}/key is missing: copy it from the coordinator's machine, by a way that nobody else can read")
+
+
 def join(wanted: Wanted) -> None:
     """Marks the home of a farm over a broker: a farm that serves it alone would have a coordinator of its own, and other versions."""
-    mark = f"{wanted.home}/joined"
     if wanted.broker:
-        with open(mark, "w") as file:
+        with open(f"{wanted.home}/joined", "w") as file:
             file.write(wanted.broker.rpartition("@")[2].removeprefix("redis://") + "\n")
-    elif os.path.exists(mark):
-        raise UsageFault(f"{wanted.home} is of a farm over a broker. Where that farm is no more, remove {mark}")
 
 
 def setup_of(wanted: Wanted) -> Setup:
-    os.makedirs(wanted.home, mode=0o700, exist_ok=True)
-    if len(wanted.home.encode()) > 80 or any(c.isspace() or c == "=" for c in wanted.home):
-        raise UsageFault(f"{wanted.home!r} is too long for a socket's path, or has a space or = in it: name another --home")
+    check(wanted)
     program = farmctl()
-    if wanted.broker and not os.path.exists(f"{wanted.home}/key") and not wanted.coordinator:
-        raise UsageFault(f"{wanted.home}/key is missing: copy it from the coordinator's machine, by a way that nobody else can read")
+    os.makedirs(wanted.home, mode=0o700, exist_ok=True)
     key = make_key(f"{wanted.home}/key")
     hints = Hints(key)
-    join(wanted)
     transport: Transport = LocalTransport()
     if wanted.broker:
         transport = RedisTransport(wanted.broker, farm_name(hints))
@@ -116,6 +122,7 @@ def begin(wanted: Wanted) -> Served:
             _begin_coordinator(served, setup)
         for number in wanted.nodes:
             _begin_node(served, setup, number)
+        join(wanted)
     except BaseException:
         served.stop()
         raise
@@ -139,7 +146,7 @@ def _begin_node(served: Served, setup: Setup, number: int) -> None:
     _serve(served, f"node{number}", lambda asked, link: answer_command(agent, builds, served.wanted, asked, link))
 
 
-def _serve(served: Served, name: str, handler: Any) -> None:
+def _serve(served: Served, name: str, handler: Handler) -> None:
     service = Service(f"{served.wanted.home}/{name}.sock", handler)
     served.services.append(service)
     threading.Thread(target=service.serve, daemon=True).start()
@@ -148,9 +155,9 @@ def _serve(served: Served, name: str, handler: Any) -> None:
 def serve(wanted: Wanted) -> int:
     """Serves until it is told to end, or nobody uses it any more."""
     over = threading.Event()
+    served = begin(wanted)  # until it stands a signal ends this process at once
     for number in (signal.SIGINT, signal.SIGTERM, signal.SIGHUP):
         signal.signal(number, lambda *_: over.set())
-    served = begin(wanted)
     with open(f"{wanted.home}/pid", "w") as file:
         file.write(f"{os.getpid()}\n")
     mark = f"{wanted.home}/served"
@@ -171,8 +178,9 @@ def serve(wanted: Wanted) -> int:
                 pass
             break
     served.stop()
-    if os.path.exists(mark):
-        os.unlink(mark)
+    for path in (mark, f"{wanted.home}/pid"):
+        if os.path.exists(path):
+            os.unlink(path)
     return 0
 
 

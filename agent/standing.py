@@ -13,7 +13,8 @@ import stat
 import time
 from typing import Iterator
 
-KINDS = ("ext2", "ext3", "ext4", "xfs", "tmpfs", "overlay", "f2fs")  # file systems
+# File systems. Not tmpfs, nor an overlay, which may lie on one: there a write through a mapping can leave the times as they were.
+KINDS = ("ext2", "ext3", "ext4", "xfs", "f2fs")
 TICK = 0.05  # seconds: two changes in one tick of the kernel's clock may have one time
 LOOKS = 40  # where all are too early the clock was set back, or something changes the folder all the time
 

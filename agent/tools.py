@@ -9,7 +9,7 @@ import shutil
 
 from agent.faults import Missing
 
-PACKAGES = {"casync": "casync", "buildah": "buildah", "redis-server": "redis-server"}
+PACKAGES = {"ip": "iproute2"}  # where a package has another name
 TOP = os.path.dirname(os.path.dirname(os.path.abspath(__file__)))
 
 

@@ -24,7 +24,7 @@ EXCLUDE = ".caexclude"
 
 
 def _casync(*words: str) -> None:
-    done = subprocess.run([need("casync"), *words], stdin=subprocess.DEVNULL, capture_output=True, text=True)
+    done = subprocess.run([need("casync"), *words], stdin=subprocess.DEVNULL, capture_output=True, text=True, errors="replace")
     if done.returncode:
         raise FarmFault(f"casync {words[0]}: {' '.join(done.stderr.split())[-300:]}")
 

@@ -45,7 +45,9 @@ class Server(http.server.ThreadingHTTPServer):
 
     def may_ask(self, host: str) -> bool:
         """Whether a request's Host is one of this server's. Else another site's name leads here, and its scripts would read the answer."""
-        return not self.is_loopback or host in [f"{name}:{self.server_port}" for name in (self.address, "localhost", "127.0.0.1")]
+        names = [self.address, "localhost", "127.0.0.1"]
+        is_ours = host in [f"{name}:{self.server_port}" for name in names] or self.server_port == 80 and host in names
+        return not self.is_loopback or is_ours
 
 
 class Answer(http.server.BaseHTTPRequestHandler):

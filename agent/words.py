@@ -5,6 +5,7 @@ Owes the filters nothing that safety rests on: a filter reads each word again an
 from __future__ import annotations
 
 import hashlib
+import os
 import re
 from typing import NamedTuple
 
@@ -31,7 +32,8 @@ def is_folder(text: str) -> bool:
 
 def short_name(text: str, kind: str = "farm") -> str:
     """A plain file name for any text: no id becomes a path."""
-    return f"{kind}-{hashlib.sha256(text.encode()).hexdigest()[:32]}"
+    digest = hashlib.sha256(os.fsencode(text)).hexdigest()
+    return f"{kind}-{digest[:32]}"
 
 
 class Want(NamedTuple):

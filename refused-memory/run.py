@@ -17,6 +17,7 @@ import re
 import subprocess
 import sys
 import tempfile
+from typing import NamedTuple
 
 PROGRAM = os.path.abspath("crates/farmctl/out/farmctl")
 # The worked schedules stand in this table, a line each, with `; ` for a line's end.
@@ -48,26 +49,35 @@ ROWS = [
 NO_THREAD = 16
 
 
-def answer(words, environment):
-    """Returns the status of a run in a folder of its own, what it printed, and the files that it left."""
+class Said(NamedTuple):
+    """What came of a run: its status, the lines that it printed, its standard error, and the files that it left."""
+
+    status: int | str
+    printed: list[bytes]
+    told: bytes
+    files: dict[str, bytes]
+
+
+def answer(words: list[str], environment: dict[str, str]) -> Said:
+    """Runs the program in a folder of its own."""
     with tempfile.TemporaryDirectory(dir=os.path.dirname(PROGRAM)) as room:
         try:
             ran = subprocess.run(
                 [PROGRAM, *words], env=environment, cwd=room, stdin=subprocess.DEVNULL, capture_output=True, timeout=60
             )
         except subprocess.TimeoutExpired:
-            return "without an end", b"", b"", {}
+            return Said("without an end", [], b"", {})
         # How many commits a run on two nodes has depends on which thread is first.
         printed = [line for line in ran.stdout.splitlines() if not line.startswith(b"commits ")]
-        return ran.returncode, printed, ran.stderr, {name: read(f"{room}/{name}") for name in os.listdir(room)}
+        return Said(ran.returncode, printed, ran.stderr, {name: read(f"{room}/{name}") for name in os.listdir(room)})
 
 
-def read(path):
+def read(path: str) -> bytes:
     with open(path, "rb") as file:
         return file.read()
 
 
-def allocations(words, preload):
+def allocations(words: list[str], preload: dict[str, str]) -> tuple[Said, int]:
     """Returns what the undisturbed run answers, and how many allocations it asks for."""
     with tempfile.NamedTemporaryFile(dir=os.path.dirname(PROGRAM)) as count:
         count.write(bytes(8))
@@ -76,7 +86,7 @@ def allocations(words, preload):
         return whole, int.from_bytes(read(count.name), sys.byteorder)
 
 
-def end_of(said, whole, words):
+def end_of(said: Said, whole: Said, words: list[str]) -> str:
     """Returns how a run with an allocation refused ended, beside the undisturbed one."""
     status, printed, told, files = said
     if said == whole:
@@ -91,11 +101,11 @@ def end_of(said, whole, words):
     return "otherwise"
 
 
-def is_sound(row, status, preload, folder="examples"):
+def is_sound(row: str, status: int, preload: dict[str, str], folder: str = "examples") -> bool:
     """Prints what came of a row on files of a folder, and returns whether nothing else did than may."""
     words = [os.path.abspath(f"{folder}/{word}") if "." in word else word for word in row.split()]
     whole, count = allocations(words, preload)
-    ends, wrong = collections.Counter(), []
+    ends, wrong = collections.Counter[str](), list[str]()
     with concurrent.futures.ThreadPoolExecutor(os.cpu_count()) as pool:
         runs = pool.map(lambda number: answer(words, {**preload, "REFUSE": str(number)}), range(1, count + 1))
         for number, said in enumerate(runs, 1):
@@ -104,20 +114,20 @@ def is_sound(row, status, preload, folder="examples"):
             if end == "otherwise":
                 wrong.append(f"  allocation {number}: {said}"[:600])
     print(
-        f"{row}: status {whole[0]}, {count} allocations, {ends['refused']} runs refused, {ends['same']} as before,"
+        f"{row}: status {whole.status}, {count} allocations, {ends['refused']} runs refused, {ends['same']} as before,"
         f" {ends['no thread']} without a thread, {len(wrong)} otherwise",
         flush=True,
     )
     for line in wrong[:8]:
         print(line, flush=True)
     # A row whose command doesn't work, or of which no allocation was refused, shows nothing.
-    if whole[0] == status and ends["refused"] > 0 and ends["no thread"] <= NO_THREAD and not wrong:
+    if whole.status == status and ends["refused"] > 0 and ends["no thread"] <= NO_THREAD and not wrong:
         return True
     print(f"  failed: wanted are status {status}, refusals, at most {NO_THREAD} without a thread, and nothing otherwise", flush=True)
     return False
 
 
-def worked(folder):
+def worked(folder: str) -> list[tuple[str, int]]:
     """Writes each worked schedule to a file of the folder, and returns a row for each."""
     schedules = re.findall(r"^text F (nodes .+)$", read(WORKED).decode(), re.MULTILINE)
     rows = []
@@ -128,7 +138,7 @@ def worked(folder):
     return rows
 
 
-def main():
+def main() -> int:
     with tempfile.TemporaryDirectory(dir=os.path.dirname(PROGRAM)) as room:
         library = f"{room}/refuse.so"
         compiler = os.environ.get("CC") or "cc"

@@ -380,8 +380,6 @@ class Node:
 
 def main() -> NoReturn:
     words = sys.argv[1:]
-    if words[1:] == ["--help"]:
-        sys.exit(0)
     given = dict(zip(words[1::2], words[2::2]))
     path = given["--record"] if words[0] == "coordinator" else given["--store"]
     os.makedirs(os.path.dirname(path) if words[0] == "coordinator" else path, exist_ok=True)

@@ -1,4 +1,4 @@
-"""Builds of Dockerfiles, with buildah and without it."""
+"""Builds of Dockerfiles, with buildah; and what is refused before it is called."""
 from __future__ import annotations
 
 import os
@@ -42,9 +42,11 @@ class Builds(support.FarmTest):
         self.asked("get", "shared:/s", self.path("shared"))
         self.assertEqual((self.read("got/f"), self.read("shared/f")), ("l one\n", "s one\ns bad\n"))
         self.assertEqual(os.listdir(self.path("got")), ["f"])
-        self.refused()
 
-    def refused(self) -> None:
+
+class Refused(support.FarmTest):
+    def test_refused(self) -> None:
+        self.write("context/Dockerfile", "FROM scratch\n")
         self.write("bad", "FROM scratch\n\nRUN --mount=type=cache,from=x,target=/c true\n")
         rows = [(["-f", self.path("bad")], "refused: line 3: .*from=x isn't carried out"), (["-f", "none"], "refused: there is no"),
                 (["--target", "nowhere"], "refused: no stage is called nowhere")]

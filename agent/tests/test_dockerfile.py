@@ -65,6 +65,9 @@ REFUSED = [  # a Dockerfile, and words of why
     (f"FROM box AS a\nRUN {T},from=a,target=/c true", "line 2: .*from=a isn't carried out"),
     (f"FROM box\nRUN true\nRUN {T},source=x,target=/c true", "line 3: .*source=x isn't carried out"),
     (f"FROM box\nRUN {T} true", "it has no target"),
+    (f"FROM box AS a\nONBUILD RUN {T},target=/c true\nFROM a\nRUN true", "has `ONBUILD RUN .*`: its cache can't be leased"),
+    ("FROM box\nSHELL 5\nRUN true", "line 2: SHELL wants a list of texts"),
+    ("FROM box\nSHELL \"abc\"\nRUN true", "line 2: SHELL wants a list of texts"),
     (f"FROM box\nRUN {T},target=c true", "relative"),
     (f"FROM box\nRUN {T},target=/ true", "hides the image"),
     (f"FROM box\nRUN {T},target=/a/.. true", "hides the image"),
@@ -96,7 +99,7 @@ class Dockerfiles(unittest.TestCase):
                 made = planned(text)
                 self.assertEqual([mount.id for mount in made.mounts], wanted)
                 self.assertEqual(len(PLACE.findall(made.text)), len(wanted))
-                again = planned(re.sub(r"id=(farm-[0-9a-f]{32})", r"id=\1", made.text))
+                again = planned(made.text)
                 self.assertEqual([mount.id for mount in again.mounts], [mount.place for mount in made.mounts])
 
     def test_refused(self) -> None:

@@ -71,6 +71,14 @@ class Runs:
             if "ready" in self.said():
                 return
             time.sleep(0.01)
+        self.fail("it isn't ready")  # type: ignore[attr-defined]
+
+    def until_alive(self, mark: str, count: int) -> None:
+        for _ in range(1000):
+            if alive(mark) == count:
+                return
+            time.sleep(0.01)
+        self.fail(f"{alive(mark)} processes are {mark}")  # type: ignore[attr-defined]
 
     def test_signals(self) -> None:
         execution = self.start("sh", "-c", "trap 'echo heard; exit 5' TERM; echo ready; while :; do sleep 0.05; done")
@@ -89,30 +97,36 @@ class Runs:
         self.assertEqual(alive("sleep 41.6"), 0)  # type: ignore[attr-defined]
 
     def test_ended(self) -> None:
-        execution = self.start("sh", "-c", "trap '' TERM; echo ready; setsid sleep 41.7 & sleep 41.7")
-        self.started()
+        mark = f"sleep 41.7{os.getpid()}"
+        execution = self.start("sh", "-c", f"trap '' TERM; setsid {mark} & {mark}")
+        self.until_alive(mark, 2)
+        begun = time.monotonic()
         self.executions.all_over()
-        self.assertEqual(alive("sleep 41.7"), 0)  # type: ignore[attr-defined]
+        self.assertLess(time.monotonic() - begun, 20)  # type: ignore[attr-defined]  # what outlives it holds the lock until it ends by itself
+        self.assertEqual(alive(mark), 0)  # type: ignore[attr-defined]
         self.assertEqual((execution.wait(1), execution.was_ended), (137, True))  # type: ignore[attr-defined]
 
     def test_agent_killed(self) -> None:
         """The next life's lock is free once nothing of the last agent's executions is left."""
+        mark = f"sleep 41.8{os.getpid()}"
         text = (
             f"import sys; sys.path.insert(0, {support.TOP!r})\n"
             "from agent.executions import Executions\n"
             f"e = Executions({self.room!r}); e.has_namespaces = {self.namespace}\n"  # type: ignore[attr-defined]
-            "x = e.start(['sh', '-c', 'echo ready; setsid sleep 41.8 & sleep 41.8'], '/', {'PATH': '/bin:/usr/bin'}, [0, 1, 2], [])\n"
+            f"x = e.start(['sh', '-c', 'setsid {mark} & {mark}'], '/', {{'PATH': '/bin:/usr/bin'}}, [0, 1, 2], [])\n"
             "x.wait(30)\n"
         )
         agent = subprocess.Popen([sys.executable, "-c", text], stdout=self.out, stdin=subprocess.DEVNULL)
-        self.started()
+        self.until_alive(mark, 2)
         with open(self.executions.lock_path) as held:
             with self.assertRaises(BlockingIOError):  # type: ignore[attr-defined]
                 fcntl.flock(held, fcntl.LOCK_EX | fcntl.LOCK_NB)
         agent.kill()
         agent.wait()
+        begun = time.monotonic()
         self.executions.all_over()
-        self.assertEqual(alive("sleep 41.8"), 0)  # type: ignore[attr-defined]
+        self.assertLess(time.monotonic() - begun, 20)  # type: ignore[attr-defined]
+        self.assertEqual(alive(mark), 0)  # type: ignore[attr-defined]
 
 
 class InGroup(Runs, support.RoomTest):

@@ -54,7 +54,7 @@ class Alone(support.FarmTest):
 
     def test_wrong_words(self) -> None:
         rows = [(["run", "--folder", "ccache=w", "--", "true"], 64, "is no folder"), (["run"], 64, "required"), (["what"], 64, "invalid choice"),
-                (["status"], 70, "no farm answers"), (["node", "9", "--broker", "redis://127.0.0.1:1"], 64, "nodes 1 to 3"), (["gc", "--keep", "0"], 64, "at least 1")]
+                (["status"], 70, "no farm answers"), (["node", "9", "--broker", "redis://127.0.0.1:1"], 64, "no node 9 of 3"), (["gc", "--keep", "0"], 64, "at least 1")]
         for words, status, said in rows:
             self.assertIn(said, self.asked(*words, status=status))
         for verb in ("", "run", "build", "up", "coordinator", "node", "status", "log", "get", "withdraw", "retire", "prune", "gc", "web"):
@@ -105,6 +105,11 @@ class Nodes(support.FarmTest):
         self.assertIn("node 1 has locked:c for", self.asked("status"))
         assert two.stderr
         self.assertRegex(two.stderr.readline(), "waiting for locked:c: node 1 has locked:c for .* s, ticket [0-9]+")
+        three = self.run_on(2, "true")
+        assert three.stderr
+        self.assertRegex(three.stderr.readline(), "waiting for locked:c")
+        three.send_signal(signal.SIGTERM)
+        self.ended(three, 75)
         self.write("go", "")
         self.ended(one, 0)
         self.assertIn("one\n", self.ended(two, 0))
@@ -215,7 +220,7 @@ class Apart(support.FarmTest):
             for number in range(3):
                 self.run_on(1 + number % 2, f"head -c 200000 /dev/urandom > w{1 + number % 2}/f{number}")
             self.assertRegex(self.asked("gc", "--keep", "1", "--grace", "-1"), "Redis forgot 2 indexes and [0-9]+ chunks")
-            self.assertRegex(self.asked("gc", "--home", self.path("n1"), "--grace", "-1"), "^forgot 2 contents of nodes, 1 indexes and [1-9][0-9]* chunks")
+            self.assertRegex(self.asked("gc", "--home", self.path("n1"), "--grace", "-1"), "^forgot 2 contents of nodes, 3 indexes and [1-9][0-9]* chunks")
             server = Redis(url)
             for key in server.call("KEYS", "*:chunk:*"):
                 server.call("SET", key, "spoilt")

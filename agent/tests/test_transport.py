@@ -140,9 +140,29 @@ class OverRedis(Carries):
                 lone.forget({one}, 0)
             self.assertEqual(store.server.call("EXISTS", f"t:chunk:{chunk}"), 1)
 
+    def test_password(self) -> None:
+        with support.redis_server(self.room, "--requirepass", "a b") as url:
+            with self.assertRaisesRegex(Missing, "NOAUTH"):
+                Redis(url)
+            Redis(url.replace("//", "//:a%20b@") + "/3").call("SET", "x", 5)
+            self.assertEqual(Redis(url.replace("//", "//default:a%20b@") + "/3").call("GET", "x"), b"5")
+        for bad in ("http://127.0.0.1:1", "redis://127.0.0.1:1", "what"):
+            with self.assertRaisesRegex(Missing, "no Redis server answers"):
+                Redis(bad)
+
+
+def server_of(port: int) -> Redis:
+    server = Redis.__new__(Redis)
+    server.url, server.idle, server.lock = urllib.parse.urlsplit(f"redis://127.0.0.1:{port}"), [], threading.Lock()
+    return server
+
+
+class Servers(unittest.TestCase):
+    """Servers of the tests' own."""
+
     def test_strange_servers(self) -> None:
         """What no server of Redis says is a fault, and nothing else."""
-        for said in (b"", b"+OK\r\n$99999999999\r\n", b"*1\r\n" * 20, b"what\r\n", b"$5\r\nab", b":x\r\n", b"-no\r\n", b"x" * 100_000):
+        for said in (b"", b"+OK\r\n$99999999999\r\n", b"*9999999\r\n", b"*1\r\n" * 20, b"what\r\n", b"$5\r\nab", b":x\r\n", b"-no\r\n", b"x" * 100_000):
             with socket.create_server(("127.0.0.1", 0)) as server:
                 def answers() -> None:
                     link, _ = server.accept()
@@ -171,21 +191,24 @@ class OverRedis(Carries):
             Redis(f"redis://127.0.0.1:{server.getsockname()[1]}")
             thread.join()
 
-    def test_password(self) -> None:
-        with support.redis_server(self.room, "--requirepass", "a b") as url:
-            with self.assertRaisesRegex(Missing, "NOAUTH"):
-                Redis(url)
-            Redis(url.replace("//", "//:a%20b@") + "/3").call("SET", "x", 5)
-            self.assertEqual(Redis(url.replace("//", "//default:a%20b@") + "/3").call("GET", "x"), b"5")
-        for bad in ("http://127.0.0.1:1", "redis://127.0.0.1:1", "what"):
-            with self.assertRaisesRegex(Missing, "no Redis server answers"):
-                Redis(bad)
+    def test_ended_connection(self) -> None:
+        """A connection that the server ended while it idled is made anew."""
+        with socket.create_server(("127.0.0.1", 0)) as server:
+            def answers() -> None:
+                for _ in range(2):
+                    link, _ = server.accept()
+                    with link:
+                        link.recv(1000)
+                        link.sendall(b"+PONG\r\n")
 
-
-def server_of(port: int) -> Redis:
-    server = Redis.__new__(Redis)
-    server.url, server.idle, server.lock = urllib.parse.urlsplit(f"redis://127.0.0.1:{port}"), [], threading.Lock()
-    return server
+            thread = threading.Thread(target=answers)
+            thread.start()
+            client = Redis(f"redis://127.0.0.1:{server.getsockname()[1]}")
+            self.assertEqual(client.call("PING"), b"PONG")
+            thread.join()
+            with self.assertRaises(Missing) as told:
+                Redis("redis://:SECRET@127.0.0.1:1")
+            self.assertNotIn("SECRET", str(told.exception))
 
 
 class Sealed(support.RoomTest):

@@ -1,6 +1,7 @@
 """Folders as contents, and back; what a store forgets."""
 from __future__ import annotations
 
+import mmap
 import os
 import subprocess
 import unittest
@@ -163,6 +164,12 @@ class Standing(support.RoomTest):
             self.assertIsNone(signature(self.path("w")), "the clock was set back")
         os.link(self.path("w/a/f"), self.path("w/a/g"))
         self.assertIsNone(signature(self.path("w")))
+        os.unlink(self.path("w/a/g"))
+        before = signature(self.path("w"))
+        with open(self.path("w/a/f"), "r+b") as file, mmap.mmap(file.fileno(), 0) as mapped:
+            mapped[0:1] = bytes([mapped[0] ^ 1])
+            mapped.flush()
+        self.assertNotEqual(signature(self.path("w")), before, "a write through a mapping")
 
     @unittest.skipUnless(support.has("casync"), support.needs("casync"))
     def test_places(self) -> None:

@@ -1,6 +1,7 @@
 """The agent's types."""
 from __future__ import annotations
 
+import glob
 import subprocess
 import sys
 import unittest
@@ -20,9 +21,11 @@ class Types(unittest.TestCase):
         python = python_with_mypy()
         if python is None:
             self.skipTest(support.needs("mypy"))
-        words = [python, "-m", "mypy", "--strict", "--python-version", "3.11", "--cache-dir", "/dev/null", "agent", "farm"]
-        done = subprocess.run(words, cwd=support.TOP, capture_output=True, text=True)
-        self.assertEqual(done.returncode, 0, done.stdout + done.stderr)
+        words = [python, "-m", "mypy", "--strict", "--python-version", "3.11", "--cache-dir", "/dev/null"]
+        # apart, since two scripts are called `run`
+        for files in (["agent", "farm"], glob.glob("printed/*.py", root_dir=support.TOP), ["refused-memory/run.py"], [".ci/dearest"]):
+            done = subprocess.run([*words, *files], cwd=support.TOP, capture_output=True, text=True)
+            self.assertEqual(done.returncode, 0, done.stdout + done.stderr)
 
 
 if __name__ == "__main__":

@@ -18,6 +18,7 @@ from agent.faults import FarmFault
 from agent.hints import Hints, make_key
 from agent.redis_wire import Redis, RedisFault
 from agent.serving import farm_name
+from agent.tests.support import free_port
 from agent.tools import TOP, need
 
 DISTURBED = f"{TOP}/agent/trials/disturbed.py"
@@ -25,12 +26,6 @@ PYTHON_FARM = [sys.executable, "-IS", f"{TOP}/farm"]
 LAST = 150  # lines of an agent's log
 UP_MOST = 180.0  # seconds: other work may have the machine
 CLONE_NEWNET = 0x40000000
-
-
-def free_port() -> int:
-    with socket.socket() as link:
-        link.bind(("127.0.0.1", 0))
-        return int(link.getsockname()[1])
 
 
 class Farm:

@@ -30,7 +30,7 @@ sys.dont_write_bytecode = True
 sys.path.insert(0, str(Path(__file__).resolve().parents[2]))
 
 from agent.tools import farmctl  # noqa: E402
-from agent.trials.farms import free_port  # noqa: E402
+from agent.tests.support import free_port  # noqa: E402
 
 CLIENTS = (1, 8, 64)
 KEY = b"5" * 64
