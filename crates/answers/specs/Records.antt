@@ -1,6 +1,7 @@
 -- What the program prints for a record (this project's own): a line for each part, in the record's order.
-use Rattle.std.specs.Prelude.{◌≡◌, ⊤, ℕ, Bool, if◌then◌else◌, List, [], ◌++◌, codes, decimal, Option, Some, None, Ok, Err}
+use Rattle.std.specs.Prelude.{◌≡◌, ⊤, ℕ, ◌<◌, ◌≤◌, Bool, if◌then◌else◌, List, [], ◌++◌, take, codes, decimal, Option, Some, None, Ok, Err}
 use Rattle.std.specs.List.{flat_map}
+use Rattle.std.specs.Result.{result_err}
 use Rattle.farm_base.specs.declared.lease.Lease.{Lease}
 use Rattle.farm_base.specs.declared.lease.NodeLife.{NodeLife}
 use Rattle.farm_base.specs.declared.number.NodeId.{NodeId}
@@ -9,10 +10,12 @@ use Rattle.farm_base.specs.Slots.{SlotParts}
 use Rattle.versions.specs.declared.lines.SlotLine.{SlotLine}
 use Rattle.words.specs.Words.{access_text}
 use Rattle.schedule.specs.Printing.{line_text}
+use Rattle.filekeeper.specs.Framing.{AreTextsOf}
+use Rattle.recordparts.specs.declared.refusal.RecordRefusal.{RecordRefusal}
 use Rattle.saverecord.specs.declared.record.Record.{Record}
 use Rattle.saverecord.specs.Logs.{ledger_in}
 use Rattle.saverecord.specs.Records.{record_of}
-use Rattle.saverecord.specs.Texts.{whole_alone}
+use Rattle.saverecord.specs.Texts.{Texts, whole_alone}
 use Rattle.answers.specs.declared.failure.Failure.{Failure}
 use Rattle.answers.specs.declared.failure.Failure.TheVariants as failure
 
@@ -75,7 +78,34 @@ IsNoRecord bytes (failure.Entry place e) = ⊥
 IsNoRecord bytes (failure.BadHead place) = ⊥
 IsNoRecord bytes failure.Memory = ⊤
 
--- the bytes of a record hold what this one holds with some entries behind it
-abbrev pub HoldsWith : List ℕ → List ℕ → Type 0
-HoldsWith whole bytes = (entries : List (List ℕ))
-    × (ledger_in (whole_alone bytes) ≡ ledger_in (record { whole = whole; entries = entries }))
+-- the bytes hold what a record's file and its log's hold
+abbrev pub HoldsBoth : List ℕ → List ℕ → List ℕ → Type 0
+HoldsBoth whole tail bytes = (texts : Texts) × AreTextsOf whole tail texts × (ledger_in (whole_alone bytes) ≡ ledger_in texts)
+
+-- the whole record with the first of its entries
+abbrev pub first_entries : ℕ → Texts → Texts
+first_entries n texts = record texts { entries = take n texts.entries }
+
+-- why texts hold no ledger, if they don't
+abbrev pub refusal_in : Texts → Option RecordRefusal
+refusal_in texts = result_err (ledger_in texts)
+
+-- with this many entries, and not with fewer, the texts hold no ledger
+abbrev pub BreaksAt : Texts → ℕ → RecordRefusal → Type 0
+BreaksAt texts place e = ((n : ℕ) → n < place → refusal_in (first_entries n texts) ≡ None) × (refusal_in (first_entries place texts) ≡ Some e)
+
+-- why texts hold no ledger: the whole record by itself holds none, or it holds one until this entry, from 1, is added
+abbrev pub IsFirstFault : Texts → Failure → Type 0
+IsFirstFault texts (failure.Read e) = ⊥
+IsFirstFault texts (failure.Load e) = ⊥
+IsFirstFault texts (failure.Schedule e) = ⊥
+IsFirstFault texts (failure.Record e) = BreaksAt texts 0 e
+IsFirstFault texts (failure.Entry place e) = (1 ≤ place) × BreaksAt texts place e
+IsFirstFault texts (failure.BadHead place) = ⊥
+IsFirstFault texts failure.Memory = ⊥
+
+-- why a record's file and its log's hold nothing. Where a head is damaged is not told here
+abbrev pub HoldNothing : List ℕ → List ℕ → Failure → Type 0
+HoldNothing whole tail (failure.BadHead place) = ⊤
+HoldNothing whole tail failure.Memory = ⊤
+HoldNothing whole tail why = (texts : Texts) × AreTextsOf whole tail texts × IsFirstFault texts why

@@ -19,8 +19,5 @@ pub(crate) fn drawn(alloc: Global, bytes: &[u8], range: Range) -> Result<String,
         Err(refusal) => return Err(Failure::Schedule(refusal)),
         Ok(schedule) => schedule,
     };
-    match draw(alloc, setup, events.as_slice(), range) {
-        Ok(text) => Ok(text),
-        Err(_) => Err(Failure::Memory),
-    }
+    Ok(draw(alloc, setup, events.as_slice(), range)?)
 }

@@ -1,12 +1,14 @@
 //! What `record` answers for a record.
-ghost use Rattle.std.specs.Prelude.{◌≡◌, ◌++◌, [], IfOk, IfErr, OnOk};
+ghost use Rattle.std.specs.Prelude.{◌≡◌, ◌≢◌, ◌++◌, [], None, IfOk, IfErr, OnOk};
 ghost use Rattle.std.specs.String.{string_bytes};
-ghost use Rattle.answers.specs.Records.{home_line, life_line, gone_line, word_if, leased_text, holder_text, lease_line, retired_line, versions_line, record_text, IsRecordText, IsNoRecord, HoldsWith};
+ghost use Rattle.answers.specs.Records.{home_line, life_line, gone_line, word_if, leased_text, holder_text, lease_line, retired_line, versions_line, record_text, IsRecordText, IsNoRecord, HoldsBoth, refusal_in, IsFirstFault, HoldNothing};
+ghost use Rattle.saverecord.specs.Texts.{with_text};
 
 use super::failure::Failure;
 use super::printing::{Printed, push_access, push_each};
 use farm_base::{Lease, NodeId, NodeLife, Slot};
 use filekeeper::{LogFault, texts_in};
+use saverecord::laws::what_is_kept_is_a_record;
 use saverecord::{Log, Record, RecordRefusal};
 use schedule::print_line;
 use std::alloc::{AllocError, Global};
@@ -132,12 +134,13 @@ pub(crate) fn recorded(alloc: Global, bytes: &[u8]) -> Result<String, Failure>
         Err(refusal) => return Err(Failure::Record(refusal)),
         Ok(record) => record,
     };
-    let text = record_text(alloc, &record)?;
-    Ok(text)
+    Ok(record_text(alloc, &record)?)
 }
 
 /// Why a log holds nothing, if it does.
-fn refusal_of(alloc: Global, log: &Log) -> Result<Option<RecordRefusal>, AllocError> {
+fn refusal_of(alloc: Global, log: &Log) -> Result<Option<RecordRefusal>, AllocError>
+    ensures { IfOk result (λ refusal. refusal ≡ refusal_in log.now) }
+{
     match log.read(alloc) {
         Ok(_) => Ok(None),
         Err(RecordRefusal::OutOfMemory) => Err(AllocError),
@@ -146,33 +149,39 @@ fn refusal_of(alloc: Global, log: &Log) -> Result<Option<RecordRefusal>, AllocEr
 }
 
 /// Adds a copy of an entry.
-fn push_copy(alloc: Global, log: &mut Log, entry: &[u8]) -> Result<(), AllocError> {
+fn push_copy(alloc: Global, log: &mut Log, entry: &[u8]) -> Result<(), AllocError>
+    ensures { OnOk result (log.new ≡ with_text entry.now log.old) }
+{
     let entry = Vec::from_slice(alloc, entry)?;
-    log.push(entry)?;
-    Ok(())
+    log.push(entry)
 }
 
-/// Why texts hold nothing: the first entry with which they do, where those before it hold something. With all entries they are
-/// refused so.
-fn first_fault(alloc: Global, log: &Log, refusal: RecordRefusal) -> Result<Failure, AllocError> {
+/// Why texts hold nothing: the first entry with which they do, where those before it hold something.
+fn first_fault(alloc: Global, log: &Log) -> Result<Failure, AllocError>
+    requires { refusal_in log.now ≢ None }
+    ensures { IfOk result (IsFirstFault log.now) }
+{
     let mut part = Log::of(alloc, Vec::from_slice(alloc, log.whole())?);
-    for (place, entry) in log.entries().iter().enumerate() {
-        match refusal_of(alloc, &part)? {
-            None => push_copy(alloc, &mut part, entry.as_slice())?,
-            Some(refusal) if place == 0 => return Ok(Failure::Record(refusal)),
-            Some(refusal) => return Ok(Failure::Entry(place, refusal)),
+    if let Some(refusal) = refusal_of(alloc, &part)? {
+        return Ok(Failure::Record(refusal));
+    }
+    for (before, entry) in log.entries().iter().enumerate() {
+        push_copy(alloc, &mut part, entry.as_slice())?;
+        if let Some(refusal) = refusal_of(alloc, &part)? {
+            return Ok(Failure::Entry(before + 1, refusal));
         }
     }
-    Ok(Failure::Entry(log.entries().len(), refusal))
+    unreachable!()
 }
 
 /// One whole record of what a record's file and the log's file beside it hold. Where no entry follows the record, it is the record's
 /// file as it is.
 pub fn whole_of(alloc: Global, whole: Vec<u8>, tail: &[u8]) -> Result<Vec<u8>, Failure>
-    // It holds what the record holds with some entries behind it.
-    ensures kept { IfOk result (λ bytes. HoldsWith whole.items bytes.items) }
+    ensures kept { IfOk result (λ bytes. HoldsBoth whole.items tail.now bytes.items) }
     ensures alone { tail.now ≡ [] → IfOk result (λ bytes. bytes.items ≡ whole.items) }
+    ensures refused { IfErr result (HoldNothing whole.items tail.now) }
 {
+    what_is_kept_is_a_record();
     let log = match texts_in(alloc, whole, tail) {
         Ok(log) => log,
         Err(LogFault::BadHead(place)) => return Err(Failure::BadHead(place)),
@@ -181,9 +190,9 @@ pub fn whole_of(alloc: Global, whole: Vec<u8>, tail: &[u8]) -> Result<Vec<u8>, F
     if log.entries().is_empty() {
         return Ok(Vec::from_slice(alloc, log.whole())?);
     }
-    match log.fold(alloc) {
-        Ok(bytes) => Ok(bytes),
+    match log.read(alloc) {
+        Ok(record) => Ok(record.write(alloc)?),
         Err(RecordRefusal::OutOfMemory) => Err(Failure::Memory),
-        Err(refusal) => Err(first_fault(alloc, &log, refusal)?),
+        Err(_) => Err(first_fault(alloc, &log)?),
     }
 }

@@ -59,6 +59,5 @@ pub(crate) fn wanted(alloc: Global, graph: &Graph) -> Result<String, AllocError>
     ensures { IfOk result (λ text. AreWantsListed graph.now (string_bytes text)) }
 {
     let keys = solverkeys::keys(alloc, graph)?;
-    let text = wants_lines(alloc, graph, keys.as_slice())?;
-    Ok(text)
+    wants_lines(alloc, graph, keys.as_slice())
 }

@@ -5,6 +5,7 @@ ghost use Rattle.std.specs.Io.KnownBytes.{Appends};
 ghost use Rattle.answers.specs.declared.failure.Failure.TheVariants as failures;
 ghost use Rattle.answers.specs.Answers.{IsAnswer, IsRefused};
 ghost use Rattle.answers.specs.Failures.{failure_line};
+ghost use Rattle.commands.specs.declared.acts.TheConstants.{DONE, REFUSED, FAULT};
 ghost use Rattle.commands.specs.Acts.{AnswersAll, FirstFault};
 
 use super::explain::{causes_told, copies_of, explained, push_log_fault};
@@ -33,8 +34,8 @@ pub const FAULT: u8 = 4;
 
 /// Writes a text, and returns the status, or `FAULT` if it can't be written.
 pub(crate) fn print<W: Write>(writer: &mut W, text: &str, status: u8) -> u8
-    ensures status { result ≢ 4 → result ≡ status }
-    ensures printed { result ≢ 4 → Appends (W.contents writer.old) (W.contents writer.new) text.now }
+    ensures status { result ≢ FAULT → result ≡ status }
+    ensures printed { result ≢ FAULT → Appends (W.contents writer.old) (W.contents writer.new) text.now }
 {
     match writer.write_all(text.as_bytes()) {
         Ok(()) => match writer.flush() {
@@ -46,9 +47,9 @@ pub(crate) fn print<W: Write>(writer: &mut W, text: &str, status: u8) -> u8
 }
 
 pub(crate) fn print_failure<E: Write>(alloc: Global, failure: Failure, err: &mut E) -> u8
-    ensures not_done { result ≢ 0 }
-    ensures refused { result ≡ 1 → failure ≢ failures.Memory }
-    ensures printed { result ≡ 1 → Appends (E.contents err.old) (E.contents err.new) (failure_line failure) }
+    ensures not_done { result ≢ DONE }
+    ensures refused { result ≡ REFUSED → failure ≢ failures.Memory }
+    ensures printed { result ≡ REFUSED → Appends (E.contents err.old) (E.contents err.new) (failure_line failure) }
 {
     let status = match failure {
         Failure::Memory => MEMORY,
@@ -61,8 +62,8 @@ pub(crate) fn print_failure<E: Write>(alloc: Global, failure: Failure, err: &mut
 }
 
 pub(crate) fn print_unreadable<E: Write>(alloc: Global, name: &str, err: &mut E) -> u8
-    ensures not_done { result ≢ 0 }
-    ensures printed { result ≡ 1 → Appends (E.contents err.old) (E.contents err.new) (codes "unreadable " ++ name.now ++ codes "\n") }
+    ensures not_done { result ≢ DONE }
+    ensures printed { result ≡ REFUSED → Appends (E.contents err.old) (E.contents err.new) (codes "unreadable " ++ name.now ++ codes "\n") }
 {
     match format!(in alloc; "unreadable {name}\n") {
         Ok(line) => print(err, line.as_str(), REFUSED),
@@ -135,10 +136,10 @@ pub fn act<O: Write, E: Write>(
     err: &mut E,
 ) -> u8
     // At status 0 the standard output has the answers of all files, one after the other.
-    ensures done { result ≡ 0 → (text : List ℕ) × AnswersAll command files.items text × Appends (O.contents out.old) (O.contents out.new) text }
+    ensures done { result ≡ DONE → (text : List ℕ) × AnswersAll command files.items text × Appends (O.contents out.old) (O.contents out.new) text }
     // At status 1 the standard error has the line of the first fault, and nothing is printed to the standard output.
-    ensures refused { result ≡ 1 → (line : List ℕ) × FirstFault command files.items line × Appends (E.contents err.old) (E.contents err.new) line }
-    ensures quiet { result ≡ 1 → out.new ≡ out.old }
+    ensures refused { result ≡ REFUSED → (line : List ℕ) × FirstFault command files.items line × Appends (E.contents err.old) (E.contents err.new) line }
+    ensures quiet { result ≡ REFUSED → out.new ≡ out.old }
 {
     let mut all = String::new(alloc);
     for (name, bytes) in files {
@@ -155,7 +156,7 @@ pub fn act<O: Write, E: Write>(
 
 /// Says why there are no words: memory ran out, or one of them is not UTF-8.
 pub fn print_no_words<E: Write>(error: &io::Error, err: &mut E) -> u8
-    ensures { result ≢ 0 }
+    ensures { result ≢ DONE }
 {
     if matches!(error.kind(), io::ErrorKind::OutOfMemory) {
         print(err, "out of memory\n", MEMORY)

@@ -1,5 +1,6 @@
 //! The processes of a farm.
 ghost use Rattle.std.specs.Prelude.{◌≢◌};
+ghost use Rattle.commands.specs.declared.acts.TheConstants.{DONE};
 
 use super::acts::{DONE, FAULT, MEMORY, REFUSED, print};
 use processes::{Cause, CoordinatorPlace, NodePlace, ProcessFault, run_coordinator, run_node};
@@ -10,19 +11,20 @@ use std::rt::{Clock, Files};
 
 /// The status of a process that ends so.
 fn status_of(cause: &Cause) -> u8
-    ensures { result ≢ 0 }
+    ensures { result ≢ DONE }
 {
     match cause {
         Cause::OutOfMemory => MEMORY,
         Cause::KeyTooShort | Cause::BadRecord | Cause::LogAlone => REFUSED,
         Cause::OtherNode(_) | Cause::BadLife | Cause::LivesSpent => REFUSED,
-        Cause::Locked | Cause::NotKept | Cause::File(_) | Cause::Stream(_) => FAULT,
+        Cause::Locked | Cause::NotKept | Cause::NotLoaded => FAULT,
+        Cause::File(_) | Cause::Stream(_) => FAULT,
     }
 }
 
 /// Prints why a process ended before its input did, and what to do.
 fn print_process_fault<E: Write>(alloc: Global, fault: &ProcessFault, err: &mut E) -> u8
-    ensures { result ≢ 0 }
+    ensures { result ≢ DONE }
 {
     match fault.text(alloc) {
         Ok(text) => print(err, text.as_str(), status_of(&fault.cause)),

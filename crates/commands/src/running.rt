@@ -2,6 +2,7 @@
 ghost use Rattle.std.specs.Prelude.{◌≡◌, ◌≢◌, ◌+◌, ◌++◌, ◌∷◌, [], ℕ, List, length, map, None, IfOk, IfErr, IfSome, IfNone, OnOk};
 ghost use Rattle.std.specs.String.{string_bytes};
 ghost use Rattle.std.specs.Io.KnownBytes.{Appends};
+ghost use Rattle.commands.specs.declared.acts.TheConstants.{DONE, REFUSED};
 ghost use Rattle.commands.specs.declared.running.InputFault.TheVariants as inputs;
 ghost use Rattle.answers.specs.Answers.{SpellsGraph, IsNoGraph};
 ghost use Rattle.commands.specs.Runs.{job_line, job_lines, commits_line, names_of, IsRunOf, IsRecordOf};
@@ -178,7 +179,7 @@ fn fault_name(fault: FarmFault) -> &'static str {
 
 /// Prints `fault` and its name, or that memory ran out.
 fn print_fault<E: Write>(alloc: Global, fault: FarmFault, err: &mut E) -> u8
-    ensures { (result ≢ 0) × (result ≢ 1) }
+    ensures { (result ≢ DONE) × (result ≢ REFUSED) }
 {
     if matches!(fault, FarmFault::Memory) {
         return print(err, "out of memory\n", MEMORY);
@@ -197,7 +198,7 @@ fn print_input_fault<E: Write>(
     is_one_of_many: bool,
     err: &mut E,
 ) -> u8
-    ensures { result ≢ 0 }
+    ensures { result ≢ DONE }
 {
     match fault {
         InputFault::Unreadable(name) => print_unreadable(alloc, name.as_str(), err),
@@ -301,7 +302,7 @@ fn keep<R: Files, E: Write>(
     err: &mut E,
 ) -> Option<u8>
     ensures none { IfNone result (err.new ≡ err.old) }
-    ensures some { IfSome result (λ status. (status ≢ 0) × (status ≢ 1)) }
+    ensures some { IfSome result (λ status. (status ≢ DONE) × (status ≢ REFUSED)) }
 {
     let path = path?;
     match FileKeeper::put(files, alloc, path, saved) {
@@ -317,7 +318,7 @@ fn try_keep<R: Files, E: Write>(
     path: Option<&str>,
     err: &mut E,
 ) -> Option<u8>
-    ensures { IfSome result (λ status. (status ≢ 0) × (status ≢ 1)) }
+    ensures { IfSome result (λ status. (status ≢ DONE) × (status ≢ REFUSED)) }
 {
     let path = path?;
     match FileKeeper::try_put(files, alloc, path) {
@@ -328,7 +329,7 @@ fn try_keep<R: Files, E: Write>(
 
 /// Says that the record could not be kept.
 fn print_save_fault<E: Write>(error: &io::Error, err: &mut E) -> u8
-    ensures { (result ≢ 0) × (result ≢ 1) }
+    ensures { (result ≢ DONE) × (result ≢ REFUSED) }
 {
     match error.kind() {
         io::ErrorKind::OutOfMemory => print(err, "out of memory\n", MEMORY),
@@ -345,9 +346,9 @@ fn print_report<R: Files, O: Write, E: Write>(
     out: &mut O,
     err: &mut E,
 ) -> Ended
-    ensures done { result.status ≡ 0 → Appends (O.contents out.old) (O.contents out.new) (string_bytes report.text) }
-    ensures failed { result.status ≡ 0 → result.failed.items ≡ report.failed.items }
-    ensures never_refused { result.status ≢ 1 }
+    ensures done { result.status ≡ DONE → Appends (O.contents out.old) (O.contents out.new) (string_bytes report.text) }
+    ensures failed { result.status ≡ DONE → result.failed.items ≡ report.failed.items }
+    ensures never_refused { result.status ≢ REFUSED }
 {
     let Report {
         text,
@@ -369,7 +370,7 @@ fn print_stop<R: Files, E: Write>(
     path: Option<&str>,
     err: &mut E,
 ) -> u8
-    ensures { (result ≢ 0) × (result ≢ 1) }
+    ensures { (result ≢ DONE) × (result ≢ REFUSED) }
 {
     let Stop { fault, saved } = stop;
     if let Some(saved) = saved {
@@ -389,10 +390,10 @@ pub fn solve<R: Files + AllocGlobal + Threads + Wait + Sync, O: Write, E: Write>
     err: &mut E,
 ) -> Ended
     // At status 0 the standard output has the lines of a run of the files, and each that failed has its cause.
-    ensures done { result.status ≡ 0 → (text : List ℕ) × (saved : List ℕ)
+    ensures done { result.status ≡ DONE → (text : List ℕ) × (saved : List ℕ)
         × IsRunOf (record { nodes = order.entry.nodes }) (names_of files.items) text saved (map (λ each. each.place) result.failed.items)
         × Appends (O.contents out.old) (O.contents out.new) text }
-    ensures quiet { result.status ≡ 1 → out.new ≡ out.old }
+    ensures quiet { result.status ≡ REFUSED → out.new ≡ out.old }
 {
     let alloc = rt.alloc();
     let Order { nodes, record_path } = order;

@@ -71,10 +71,7 @@ pub(crate) fn is_fault(done: Done) -> bool
 fn takes(taken: Option<u64>, number: u64) -> bool
     ensures { result ≡ takes taken number }
 {
-    match taken {
-        Some(message) => message == number,
-        None => false,
-    }
+    taken == Some(number)
 }
 
 /// Whether the frame is one that is looked for.

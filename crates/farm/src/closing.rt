@@ -96,13 +96,13 @@ pub(crate) fn end_next<R: Wait>(
     Ok(true)
 }
 
-/// Looks whether the tenure that ended first is settled by now.
+/// Looks whether the next tenure that ended is settled by now. One that isn't goes behind the others.
 pub(crate) fn settle_next(
     locked: &mut LockedBoard,
     leaving: &mut Vec<Leaving>,
     receipts: &mut Vec<Receipt>,
 ) -> Result<bool, FarmFault> {
-    if leaving.is_empty() || leaving.reserve(1).is_err() {
+    if leaving.is_empty() {
         return Ok(false);
     }
     let Leaving {

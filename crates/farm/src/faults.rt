@@ -5,7 +5,7 @@ ghost use Rattle.solving.specs.Faults.{is_bare};
 use farmend::EndRefusal;
 use solving::FarmFault;
 
-/// What a run ends with before its threads begin: that is one of these three, so that the last case never comes.
+/// What a run ends with before its threads begin.
 pub(crate) fn early_fault(fault: FarmFault) -> FarmFault
     ensures { is_bare result ≡ true }
 {

@@ -16,11 +16,11 @@ ghost use Rattle.farmend.specs.Standing.{IsStanding};
 use super::ends::{FarmEnd, FarmLeft, FarmStop};
 use super::faults::{early_fault, end_fault};
 use super::one::Farm;
-use super::solved::{Solved, Told, solve_all};
+use super::solved::{JobResults, Solved, Stood, solve_all};
 use executions::{Executor, Gate};
 use farm_base::NodeId;
 use farmboard::{Board, FarmStep, Receipt};
-use farmend::{EndRefusal, HandedBack, Hired, RunEnd, Standing, calls_of, check, check_standing};
+use farmend::{EndRefusal, HandedBack, Hired, Standing, calls_of, check, check_standing};
 use jobs::Answer;
 use schedule::Setup;
 use solverkeys::Keyed;
@@ -132,63 +132,66 @@ fn run_staffed<R: Threads + Wait + Sync, G: Gate>(
             });
         }
     };
-    let Solved {
-        told,
-        board,
-        receipts,
-        executors,
-        jobs,
-    } = solved;
+    let Solved { told, stood, jobs } = solved;
     match told {
-        Ok(Told { answers, causes }) => {
-            let back = HandedBack {
-                board,
-                receipts,
-                answers,
-            };
+        Ok(results) => {
             let (jobs, hired) = (jobs.as_slice(), hired.as_slice());
-            match checked(alloc, setup, jobs, hired, executors.as_slice(), back) {
-                Ok(end) => Ok(FarmEnd {
-                    answers: end.answers,
-                    causes,
-                    commits: end.commits,
-                    receipts: end.receipts,
-                    saved: end.saved,
-                    schedule: end.schedule,
-                    executors,
-                }),
+            match answered(alloc, setup, jobs, hired, results, stood) {
+                Ok(end) => Ok(end),
                 Err(refusal) => Err(FarmStop {
                     fault: end_fault(refusal),
                     left: None,
                 }),
             }
         }
-        Err(fault) => Err(stopped(alloc, setup, hired, fault, executors, (board, receipts))),
+        Err(fault) => Err(stopped(alloc, setup, hired, fault, stood)),
     }
 }
 
-/// What the threads of a run handed back, if it agrees.
-fn checked(
+/// The end of a run whose jobs came to these results, if what its threads handed back agrees.
+fn answered(
     alloc: Global,
     setup: Setup,
     jobs: &[(NodeId, Keyed)],
     hired: &[Hired],
-    executors: &[Box<dyn Executor + Send>],
-    back: HandedBack,
-) -> Result<RunEnd, EndRefusal>
+    results: JobResults,
+    stood: Stood,
+) -> Result<FarmEnd, EndRefusal>
+    requires { map (λ each. each.place) results.causes.items ≡ failed_in results.answers.items }
     ensures saved { IfOk result (λ end. Holds (whole_alone end.saved.items) (farm_after setup end.schedule.items).saved) }
     ensures commits { IfOk result (λ end. end.commits ≡ commits_after setup end.schedule.items) }
     ensures receipts { IfOk result (λ end. All (StandsOn (farm_after setup end.schedule.items)) end.receipts.items) }
     ensures tickets { IfOk result (λ end. IsDistinct nat_eq (tickets_of end.receipts.items)) }
     ensures count { IfOk result (λ end. length end.receipts.items ≡ end.commits) }
-    ensures calls { OnOk result (AllZip Grew (map (λ each. each.had.items) hired.now) (map (λ executor. history executor) executors.now)) }
-    ensures answers { IfOk result (λ end. AreAnswered (farm_after setup end.schedule.items) (map (λ each. each.node) hired.now) (map (λ each. each.had.items) hired.now) (map (λ executor. history executor) executors.now) jobs.now end.answers.items) }
+    ensures calls { IfOk result (λ end. AllZip Grew (map (λ each. each.had.items) hired.now) (map (λ executor. history executor) end.executors.items)) }
+    ensures answers { IfOk result (λ end. AreAnswered (farm_after setup end.schedule.items) (map (λ each. each.node) hired.now) (map (λ each. each.had.items) hired.now) (map (λ executor. history executor) end.executors.items) jobs.now end.answers.items) }
     ensures answered { IfOk result (λ end. length end.answers.items ≡ length jobs.now) }
     ensures settled { IfOk result (λ end. All (λ answer. answer ≢ Answer.Waiting) end.answers.items) }
-    ensures same { IfOk result (λ end. end.answers.items ≡ back.answers.items) }
+    ensures causes { IfOk result (λ end. map (λ each. each.place) end.causes.items ≡ failed_in end.answers.items) }
 {
-    let ends = calls_of(alloc, executors)?;
-    check(alloc, setup, jobs, hired, ends.as_slice(), back)
+    let JobResults { answers, causes } = results;
+    let Stood {
+        board,
+        receipts,
+        executors,
+    } = stood;
+    let ends = calls_of(alloc, executors.as_slice())?;
+    let back = HandedBack {
+        board,
+        receipts,
+        answers,
+    };
+    let end = check(alloc, setup, jobs, hired, ends.as_slice(), back)?;
+    drop(ends);
+    Ok(FarmEnd {
+        answers: end.answers,
+        causes,
+        commits: end.commits,
+        receipts: end.receipts,
+        saved: end.saved,
+        schedule: end.schedule,
+        executors,
+    })
 }
 
 /// What stands of a run that a fault ended, but for its executors, who are the first of those that were hired.
@@ -222,14 +225,17 @@ fn stopped(
     setup: Setup,
     hired: Vec<Hired>,
     fault: FarmFault,
-    executors: Vec<Box<dyn Executor + Send>>,
-    stood: (Board, Vec<Receipt>),
+    stood: Stood,
 ) -> FarmStop
     ensures bare { IfNone result.left (is_bare result.fault ≡ true) }
     ensures stands { IfSome result.left (λ left. IsStanding setup left.schedule.items left.saved.items left.commits left.receipts.items) }
     ensures stands_by { IfSome result.left (λ left. AllZip Grew (take (length left.executors.items) (map (λ each. each.had.items) hired.items)) (map (λ executor. history executor) left.executors.items)) }
 {
-    let (board, receipts) = stood;
+    let Stood {
+        board,
+        receipts,
+        executors,
+    } = stood;
     match standing(alloc, setup, hired, executors.as_slice(), board, receipts) {
         Ok(left) => FarmStop {
             fault,

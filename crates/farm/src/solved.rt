@@ -31,26 +31,29 @@ pub struct FailedJob {
 
 /// What the jobs came to: the answer of each, and why those that failed did.
 #[derive(Drop)]
-pub(crate) struct Told {
+pub(crate) struct JobResults {
     pub(crate) answers: Vec<Answer>,
     pub(crate) causes: Vec<FailedJob>,
 }
 
-/// What the threads leave: what the jobs came to, or the first fault; what is checked; and the executors and jobs.
+/// What stands once the threads are over: the board, all receipts, and the executors.
 #[derive(Drop)]
-pub(crate) struct Solved {
-    pub(crate) told: Result<Told, FarmFault>,
+pub(crate) struct Stood {
     pub(crate) board: Board,
     pub(crate) receipts: Vec<Receipt>,
     pub(crate) executors: Vec<Box<dyn Executor + Send>>,
+}
+
+/// What the threads leave: what the jobs came to, or the first fault; what stands then; and the jobs.
+#[derive(Drop)]
+pub(crate) struct Solved {
+    pub(crate) told: Result<JobResults, FarmFault>,
+    pub(crate) stood: Stood,
     pub(crate) jobs: Vec<(NodeId, Keyed)>,
 }
 
-/// The executors, and all receipts.
-fn gather(
-    alloc: Global,
-    ends: Ends,
-) -> Result<(Vec<Box<dyn Executor + Send>>, Vec<Receipt>), AllocError> {
+/// What stands: beside the board the executors, and all receipts.
+fn gather(alloc: Global, board: Board, ends: Ends) -> Result<Stood, AllocError> {
     let Ends {
         workers,
         mut receipts,
@@ -64,7 +67,11 @@ fn gather(
         receipts.append(&mut made)?;
         executors.push(executor)?;
     }
-    Ok((executors, receipts))
+    Ok(Stood {
+        board,
+        receipts,
+        executors,
+    })
 }
 
 /// The answer of a job.
@@ -76,8 +83,7 @@ fn answer_at<R: Wait>(
     let Some(state) = state_of(nodes, submission.node) else {
         return Err(FarmFault::ReceiptLost);
     };
-    let answer = answer_of(&state.jobs.lock(rt).jobs, submission.number)?;
-    Ok(answer)
+    answer_of(&state.jobs.lock(rt).jobs, submission.number)
 }
 
 /// The answers of the jobs with these numbers on their nodes.
@@ -105,8 +111,7 @@ fn cause_at<R: Wait>(
     let Some(state) = state_of(nodes, submission.node) else {
         return Err(FarmFault::ReceiptLost);
     };
-    let cause = cause_of(alloc, &state.jobs.lock(rt).jobs, submission.number)?;
-    Ok(cause)
+    cause_of(alloc, &state.jobs.lock(rt).jobs, submission.number)
 }
 
 /// Each job that failed, and why.
@@ -143,7 +148,7 @@ fn told_of<R: Wait>(
     alloc: Global,
     common: &Common,
     numbers: &[Submission],
-) -> Result<Told, FarmFault>
+) -> Result<JobResults, FarmFault>
     ensures { IfOk result (λ told. map (λ each. each.place) told.causes.items ≡ failed_in told.answers.items) }
 {
     if let Some(fault) = common.signals.fault(rt) {
@@ -152,7 +157,7 @@ fn told_of<R: Wait>(
     let nodes = common.nodes.as_slice();
     let answers = answers_of(rt, alloc, nodes, numbers)?;
     let causes = causes_of(rt, alloc, nodes, numbers, answers.as_slice())?;
-    Ok(Told { answers, causes })
+    Ok(JobResults { answers, causes })
 }
 
 /// The board and the jobs.
@@ -209,13 +214,7 @@ pub(crate) fn solve_all<R: Threads + Wait + Sync, G: Gate>(
     let (common, numbers) = submitted(alloc, setup, jobs, workers, plan.next_due())?;
     let ends = run_threads(rt, alloc, &common, executors, plan, gate);
     let told = told_of(rt, alloc, &common, numbers.as_slice());
-    let (executors, receipts) = gather(alloc, ends)?;
     let (board, jobs) = parts_of(common);
-    Ok(Solved {
-        told,
-        board,
-        receipts,
-        executors,
-        jobs,
-    })
+    let stood = gather(alloc, board, ends)?;
+    Ok(Solved { told, stood, jobs })
 }

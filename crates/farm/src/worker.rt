@@ -1,7 +1,4 @@
 //! A worker: it solves the keys of its node, one after the other, by its executor.
-ghost use Rattle.std.specs.Prelude.{◌≡◌, All, IfOk, IfSome};
-ghost use Rattle.solving.specs.Leases.{IsReplyTo};
-ghost use Rattle.solving.specs.Places.{IsSeenIn};
 
 use super::common::Common;
 use super::node_state::{Next, NodeJobs, state_of};

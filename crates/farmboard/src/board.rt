@@ -1,14 +1,17 @@
 //! The board.
-ghost use Rattle.std.specs.Prelude.{◌≡◌, ◌≤◌, ◌↔◌, [], true, IfOk, IfErr, IfSome, IfNone, is_some, length, map, ℕ};
+ghost use Rattle.std.specs.Prelude.{◌≡◌, ◌≤◌, ◌↔◌, [], true, IfOk, IfErr, IfSome, IfNone, is_some, length, ℕ};
 ghost use Rattle.farm_base.specs.declared.limits.TheConstants.{EVENTS};
 ghost use Rattle.protocol.specs.Names.{tenure_wants};
 ghost use Rattle.protocol.specs.Replay.{is_node};
 ghost use Rattle.events.specs.declared.answer.EventNote.TheVariants as note;
 ghost use Rattle.events.specs.declared.answer.NodeNote.TheVariants as node_note;
 ghost use Rattle.farmboard.specs.Ends.{finished_of};
+ghost use Rattle.nodecore.specs.Shown as core;
+ghost use Rattle.nodeasks.specs.Rows.{none_lost};
 ghost use Rattle.world.specs.Setups.{IsSetup};
 ghost use Rattle.world.specs.Shown.{shown};
 
+use super::carrying::{carry_out_copied, make_room};
 use super::fault::FarmStep;
 use super::tokens::{Accept, Asked, Finished, Granted, Running, abandon_asked};
 use events::{Event, EventRefusal, How, Outcome};
@@ -16,10 +19,10 @@ use farm_base::{
     Ask, Copied, EVENTS, FolderName, Grant, Items, Left, Life, Mode, NodeId, Version, Want, Wants,
 };
 use farmhistory::{
-    BoardRefusal, Counts, InUse, answer, asked, carry_out, count, first_versions, has_node,
-    is_among, leases_at, note, pass,
+    BoardRefusal, Counts, InUse, answer, asked, count, first_versions, has_node, is_among, note,
+    pass,
 };
-use nodecore::AskState;
+use nodecore::{AskState, NodeCore};
 use schedule::Setup;
 use std::alloc::{AllocError, Global};
 use std::marker::Model;
@@ -74,7 +77,7 @@ impl Board {
     ghost use Rattle.farmhistory.specs.Counts.{counts_of, commits_of};
     ghost use Rattle.farmhistory.specs.Boards.{AreFew};
     ghost use Rattle.farmboard.specs.Faults.{Skips, TookOrNot, RestartsNode, Faults};
-    ghost use Rattle.farmboard.specs.Tokens.{is_in_life, state_of, IsAskOf, Accepts};
+    ghost use Rattle.farmboard.specs.Tokens.{is_in_life, IsAskOf, Accepts};
 
     /// A board of a farm where nothing happened.
     pub fn start(alloc: Global, setup: Setup) -> Result<Self, StartRefusal>
@@ -177,26 +180,18 @@ impl Board {
         if self.schedule.len() >= EVENTS {
             return Err(BoardRefusal::HistoryFull);
         }
-        let Ok(copy) = event.copy(alloc) else {
-            return Err(BoardRefusal::OutOfMemory);
-        };
-        let Ok(leases) = leases_at(&self.world, alloc, &event) else {
-            return Err(BoardRefusal::OutOfMemory);
-        };
-        if self.schedule.reserve(1).is_err()
-            || self.out.reserve(1).is_err()
-            || self.ahead.reserve(1).is_err()
-        {
-            return Err(BoardRefusal::OutOfMemory);
-        }
-        let Ok(outcome) = carry_out(&mut self.world, alloc, event) else {
-            return Err(BoardRefusal::OutOfMemory);
-        };
-        note(&mut self.out, &copy, &outcome);
-        self.passed = pass(&mut self.ahead, self.passed, &copy);
-        self.counts = count(self.counts, leases.as_slice(), &self.world, &outcome);
-        self.schedule.push_reserved(copy);
-        answer(outcome)
+        make_room(&mut self.schedule, &mut self.out, &mut self.ahead)?;
+        let done = carry_out_copied(&mut self.world, alloc, event)?;
+        note(&mut self.out, &done.event, &done.outcome);
+        self.passed = pass(&mut self.ahead, self.passed, &done.event);
+        self.counts = count(
+            self.counts,
+            done.leases.as_slice(),
+            &self.world,
+            &done.outcome,
+        );
+        self.schedule.push_reserved(done.event);
+        answer(done.outcome)
     }
 
     /// Whether the message of this number was skipped, or a Deliver of the schedule names it.
@@ -263,9 +258,7 @@ impl Board {
         ensures token { IfOk result (λ a. IsAskOf self.old node wants a) }
         ensures err { IfErr result (λ e. Took self.old (Event.Ask node wants) self.new (Err e)) }
     {
-        let Ok(copy) = wants.copy(alloc) else {
-            return Err(BoardRefusal::OutOfMemory);
-        };
+        let copy = wants.copy(alloc)?;
         let life = self.life_of(node);
         let ask = self.take_ask(alloc, Event::Ask(node, wants))?;
         Ok(Asked {
@@ -288,9 +281,7 @@ impl Board {
         ensures token { IfOk result (λ a. IsAskOf self.old node (tenure_wants folder) a) }
         ensures err { IfErr result (λ e. Took self.old (Event.Tenure node folder) self.new (Err e)) }
     {
-        let Ok(wants) = wants_of_tenure(alloc, &folder) else {
-            return Err(BoardRefusal::OutOfMemory);
-        };
+        let wants = wants_of_tenure(alloc, &folder)?;
         let life = self.life_of(node);
         let ask = self.take_ask(alloc, Event::Tenure(node, folder))?;
         Ok(Asked {
@@ -321,9 +312,7 @@ impl Board {
         let Some(number) = self.next() else {
             return Err(BoardRefusal::Event(EventRefusal::NoSuchMessage));
         };
-        if self.skipped.reserve(1).is_err() {
-            return Err(BoardRefusal::OutOfMemory);
-        }
+        self.skipped.reserve(1)?;
         self.skipped.push_reserved(number);
         self.passed = number;
         Ok(())
@@ -387,24 +376,18 @@ impl Board {
         }
     }
 
-    /// How an ask stands, if its node is in this life and made it.
-    fn ask_state(
-        &self,
-        alloc: Global,
-        node: NodeId,
-        life: Life,
-        ask: Ask,
-    ) -> Result<Option<Option<AskState>>, AllocError>
-        ensures gone { IfOk result (λ x. is_some x ≡ is_in_life (farm_of self.now) node life) }
-        ensures state { IfOk result (λ x. IfSome x (λ state. state ≡ state_of (farm_of self.now) node ask)) }
+    /// The node, if it is in this life.
+    pub(crate) fn in_life(&self, node: NodeId, life: Life) -> Option<&NodeCore>
+        ensures exact { is_some result ≡ is_in_life (farm_of self.now) node life }
+        ensures node { IfSome result (λ x. core.shown x.now ≡ (farm_of self.now).nodes node.0) }
+        // It tells of each ask how it ended: no node of a farm forgets.
+        ensures told { IfSome result (λ x. core.forgets x.now ≡ none_lost) }
     {
-        let Some(core) = self.world().node(node) else {
-            return Ok(None);
-        };
+        let core = self.world().node(node)?;
         if core.life() != life {
-            return Ok(None);
+            return None;
         }
-        Ok(Some(core.ask_state(alloc, ask)?))
+        Some(core)
     }
 
     /// What became of an ask. Nothing is appended.
@@ -412,20 +395,20 @@ impl Board {
         ensures ok { IfOk result (Accepts (farm_of self.now) token) }
         ensures err { IfErr result (λ e. (e.0 ≡ token) × (e.1 ≡ BoardRefusal.OutOfMemory)) }
     {
-        let Ok(state) = self.ask_state(alloc, token.node, token.life, token.ask) else {
+        let Some(core) = self.in_life(token.node, token.life) else {
+            abandon_asked(token);
+            return Ok(Accept::Lost);
+        };
+        let Ok(state) = core.ask_state(alloc, token.ask) else {
             return Err((token, BoardRefusal::OutOfMemory));
         };
         match state {
-            None => {
-                abandon_asked(token);
-                Ok(Accept::Lost)
-            }
-            Some(Some(AskState::Granted(grant))) => Ok(Accept::Granted(granted(token, grant))),
-            Some(Some(AskState::Over(How::Denied(why)))) => {
+            Some(AskState::Granted(grant)) => Ok(Accept::Granted(granted(token, grant))),
+            Some(AskState::Over(How::Denied(why))) => {
                 abandon_asked(token);
                 Ok(Accept::Denied(why))
             }
-            Some(_) => Ok(Accept::Waiting(token)),
+            _ => Ok(Accept::Waiting(token)),
         }
     }
 }

@@ -4,7 +4,7 @@ use farm_base::{Content, NodeId, Slot, Ticket};
 /// A step by which a farm is disturbed.
 #[derive(Drop)]
 pub enum FarmStep {
-    /// The next message is never delivered, unless again.
+    /// The next message isn't delivered, unless `Again` names it.
     Skip,
     /// The message of this number is delivered, for the first time or again.
     Again(u64),

@@ -3,6 +3,7 @@
 
 mod beginning;
 mod board;
+mod carrying;
 mod fault;
 mod returning;
 mod settling;

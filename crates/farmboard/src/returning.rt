@@ -16,8 +16,8 @@ impl Board {
     fn is_held(&self, node: NodeId, life: Life, ticket: Ticket) -> bool
         ensures { result ≡ is_held (farm_of self.now) node life ticket }
     {
-        match self.world().node(node) {
-            Some(core) => core.life() == life && !core.is_spent() && core.is_held(ticket),
+        match self.in_life(node, life) {
+            Some(core) => !core.is_spent() && core.is_held(ticket),
             None => false,
         }
     }
@@ -26,8 +26,8 @@ impl Board {
     fn is_running(&self, node: NodeId, life: Life, ticket: Ticket) -> bool
         ensures { result ≡ is_running (farm_of self.now) node life ticket }
     {
-        match self.world().node(node) {
-            Some(core) => core.life() == life && !core.is_spent() && core.is_running(ticket),
+        match self.in_life(node, life) {
+            Some(core) => !core.is_spent() && core.is_running(ticket),
             None => false,
         }
     }

@@ -29,10 +29,7 @@ impl Board {
         ensures life { is_some result ≡ is_in_life (farm_of self.now) token.now.node token.now.life }
         ensures way { IfSome result (λ way. option_copied way ≡ way_out_in (farm_of self.now) token.now) }
     {
-        let core = self.world().node(token.node)?;
-        if core.life() != token.life {
-            return None;
-        }
+        let core = self.in_life(token.node, token.life)?;
         Some(core.way_out(token.ask))
     }
 

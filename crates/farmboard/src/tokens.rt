@@ -80,7 +80,7 @@ pub enum Settled {
     Fenced,
     /// Nothing is known of it yet.
     Waiting(Finished),
-    /// Its node restarted, and its lease ended otherwise.
+    /// Its node restarted, and its ticket is neither live nor on a line of its slots.
     Lost,
 }
 

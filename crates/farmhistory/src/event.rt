@@ -34,10 +34,7 @@ pub fn carry_out(
 pub fn answer(outcome: Result<Outcome, EventRefusal>) -> Result<Outcome, BoardRefusal>
     ensures { result ≡ answer_of outcome }
 {
-    match outcome {
-        Ok(outcome) => Ok(outcome),
-        Err(refusal) => Err(BoardRefusal::Event(refusal)),
-    }
+    outcome.map_err(BoardRefusal::Event)
 }
 
 /// The number of the ask that a node made.

@@ -1,4 +1,8 @@
+ghost use Rattle.std.specs.Prelude.{◌≡◌};
+ghost use Rattle.farmhistory.specs.declared.refusal.BoardRefusal.TheVariants as board;
+
 use events::EventRefusal;
+use std::alloc::AllocError;
 use thiserror::Error;
 
 /// Why a call of the board was refused.
@@ -13,4 +17,12 @@ pub enum BoardRefusal {
     TokenOut,
     #[error("out of memory")]
     OutOfMemory,
+}
+
+impl From<AllocError> for BoardRefusal {
+    ghost from_gives = { λ _ e. e ≡ board.OutOfMemory };
+
+    fn from(_error: AllocError) -> BoardRefusal {
+        BoardRefusal::OutOfMemory
+    }
 }

@@ -1,4 +1,4 @@
-ghost use Rattle.std.specs.Prelude.{◌≡◌, ◌++◌, IfOk, OnOk, map};
+ghost use Rattle.std.specs.Prelude.{◌≡◌, ◌++◌, IfOk, OnOk};
 ghost use Rattle.protocol.specs.Nodes.{fetches, fetches_of, is_missing};
 ghost use Rattle.farm_base.specs.Contents.{empty_digest};
 ghost use Rattle.protocol.specs.Farm.{farm_limits};

@@ -1,6 +1,9 @@
 //! How the process of a node begins.
-ghost use Rattle.std.specs.Prelude.{◌≡◌, true, All, IfOk};
+ghost use Rattle.std.specs.Prelude.{◌≡◌, ◌↔◌, true, false, [], All, Err, IfOk};
 ghost use Rattle.farm_base.specs.Contents.{content_digest};
+ghost use Rattle.nodecontents.specs.Stored.{kept_node};
+ghost use Rattle.protocol.specs.Farm.{farm_limits};
+ghost use Rattle.protocol.specs.Nodes.{may_restart};
 ghost use Rattle.nodefilter.specs.Starts.{Begins};
 
 use super::filter::NodeFilter;
@@ -49,7 +52,8 @@ pub struct Started<S: Store> {
 /// Begins the life after the last one: it is kept before its greeting is handed out. The executions of the last one have to be over.
 pub fn start<S: Store>(alloc: Global, origin: Origin<S>) -> Result<Started<S>, StartFault>
     requires { All (λ content. S.kept origin.store (content_digest content) ≡ true) origin.contents.items }
-    ensures { IfOk result (Begins S.kept S.last_life origin) }
+    ensures begun { IfOk result (Begins S.kept S.last_life origin) }
+    ensures spent { (result ≡ Err StartFault.LivesSpent) ↔ (may_restart farm_limits (kept_node origin.last origin.contents.items []) ≡ false) }
 {
     let Origin {
         me,

@@ -23,6 +23,8 @@ pub enum Cause {
     NotKept,
     /// The file can't be read, made or written.
     File(io::Error),
+    /// The record, or the log behind it, can't be read again, or has changed since it was opened.
+    NotLoaded,
     /// The standard input can't be read, or the standard output not be written.
     Stream(io::Error),
     OutOfMemory,
@@ -97,6 +99,9 @@ impl ProcessFault {
             ),
             Cause::File(error) => format!(in alloc;
                 "fault FileFault\n{path}: {error}. See that its folder is there, and that this user may read and write it.\n"
+            ),
+            Cause::NotLoaded => format!(in alloc;
+                "fault FileFault\n{path} or {path}.log can't be read any more, or another program changed it. See that this user may read both, and that nothing else writes them.\n"
             ),
             Cause::Stream(error) => format!(in alloc;
                 "fault StreamFault\n{path}: {error}. What was answered before it counts.\n"

@@ -50,10 +50,7 @@ fn not_started<R: Files + AllocGlobal>(
 ) -> ProcessFault {
     match stopped.refusal {
         CoordRefusal::OutOfMemory => ProcessFault::out_of_memory(rt.alloc()),
-        CoordRefusal::LoadFault => {
-            let error = io::Error::from(io::ErrorKind::Other);
-            ProcessFault::of_file(rt.alloc(), path, error)
-        }
+        CoordRefusal::LoadFault => ProcessFault::of(rt.alloc(), path, Cause::NotLoaded),
         _ => ProcessFault::of(rt.alloc(), path, Cause::BadRecord),
     }
 }

@@ -9,4 +9,4 @@ mod seen;
 pub use batch::{Batch, has_changed};
 pub use left::{FolderEdits, left_by};
 pub use refusal::RunRefusal;
-pub use seen::{Named, Seen, find, read_leased};
+pub use seen::{NamedFolder, Seen, find, read_leased};

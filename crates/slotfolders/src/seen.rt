@@ -13,13 +13,13 @@ use folders::{Folder, FolderRefusal};
 use std::alloc::Global;
 
 /// A folder and its name.
-pub type Named = (FolderName, Folder);
+pub type NamedFolder = (FolderName, Folder);
 
 /// The folders of a lease's slots, and the SHARED ones that were handed in.
 #[derive(Drop)]
 pub struct Seen {
-    leased: Items<Named>,
-    shared: Items<Named>,
+    leased: Items<NamedFolder>,
+    shared: Items<NamedFolder>,
     /// The folder that is seen under a name that none has.
     empty: Folder,
     ghost is_empty: { empty ≡ [] },
@@ -43,7 +43,7 @@ impl Seen {
         alloc: Global,
         slots: &[GrantedSlot],
         contents: &[Content],
-        shared: Vec<Named>,
+        shared: Vec<NamedFolder>,
     ) -> Result<Self, RunRefusal>
         ensures leased { IsOpened (result_map_both (λ seen. seen.leased) (λ refusal. refusal) result) (read_all (zip slots.now contents.now)) }
         ensures shared { IfOk result (λ seen. seen.shared ≡ shared.items) }
@@ -72,7 +72,11 @@ impl Seen {
 }
 
 /// The folder that the content of a slot spells.
-fn read_slot(alloc: Global, slot: &GrantedSlot, content: &Content) -> Result<Named, RunRefusal>
+fn read_slot(
+    alloc: Global,
+    slot: &GrantedSlot,
+    content: &Content,
+) -> Result<NamedFolder, RunRefusal>
     ensures { IsOpened result (read_one (slot.now, content.now)) }
 {
     match Folder::read(alloc, content.bytes()) {
@@ -92,7 +96,7 @@ pub fn read_leased(
     alloc: Global,
     slots: &[GrantedSlot],
     contents: &[Content],
-) -> Result<Items<Named>, RunRefusal>
+) -> Result<Items<NamedFolder>, RunRefusal>
     ensures { IsOpened result (read_all (zip slots.now contents.now)) }
 {
     let mut folders = Vec::new(alloc);

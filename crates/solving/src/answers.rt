@@ -1,15 +1,19 @@
 //! The answers of the jobs.
-ghost use Rattle.std.specs.Prelude.{◌≡◌, ◌≢◌, All, IfOk, Some, length, slice_get};
+ghost use Rattle.std.specs.Prelude.{◌≡◌, ◌≢◌, ◌⊎◌, All, IfOk, IfErr, Err, Some, None, length, slice_get};
 ghost use Rattle.keytable.specs.Causes.{IsCause};
+ghost use Rattle.solving.specs.Answers.{IsLastAnswer};
 
 use super::fault::FarmFault;
 use super::faults::jobs_fault;
 use jobs::{Answer, Cause, JobId, Jobs, JobsRefusal};
 use std::alloc::Global;
 
-/// The answer of a job that doesn't wait. A result whose key is done without it has failed.
+/// The answer of a job that doesn't wait. A result whose key is done without it has failed. `ReceiptLost` of a job that
+/// waits, or isn't there.
 pub fn answer_of(jobs: &Jobs, job: JobId) -> Result<Answer, FarmFault>
-    ensures { IfOk result (λ answer. answer ≢ Answer.Waiting) }
+    ensures answer { (wanted : _) → slice_get jobs.now.jobs job.0 ≡ Some wanted → IsLastAnswer jobs.now.keys wanted result }
+    ensures missing { slice_get jobs.now.jobs job.0 ≡ None → result ≡ Err FarmFault.ReceiptLost }
+    ensures settled { IfOk result (λ answer. answer ≢ Answer.Waiting) }
 {
     match jobs.answer(job) {
         Ok(Answer::Output(digest)) => Ok(Answer::Output(digest)),
@@ -20,9 +24,12 @@ pub fn answer_of(jobs: &Jobs, job: JobId) -> Result<Answer, FarmFault>
     }
 }
 
-/// Why a job that failed did. `ReceiptLost` of one that did not.
+/// Why a job that failed did. `ReceiptLost` of one that did not, or isn't there; `Memory`.
 pub fn cause_of(alloc: Global, jobs: &Jobs, job: JobId) -> Result<Cause, FarmFault>
-    ensures { (wanted : _) → slice_get jobs.now.jobs job.0 ≡ Some wanted → IfOk result (λ cause. IsCause jobs.now.keys wanted (Some cause)) }
+    ensures cause { (wanted : _) → slice_get jobs.now.jobs job.0 ≡ Some wanted → IfOk result (λ cause. IsCause jobs.now.keys wanted (Some cause)) }
+    ensures no_cause { (wanted : _) → slice_get jobs.now.jobs job.0 ≡ Some wanted → result ≡ Err FarmFault.ReceiptLost → IsCause jobs.now.keys wanted None }
+    ensures missing { slice_get jobs.now.jobs job.0 ≡ None → result ≡ Err FarmFault.ReceiptLost }
+    ensures faults { IfErr result (λ fault. (fault ≡ FarmFault.ReceiptLost) ⊎ (fault ≡ FarmFault.Memory)) }
 {
     match jobs.cause(alloc, job) {
         Ok(Some(cause)) => Ok(cause),

@@ -40,10 +40,7 @@ pub fn run_one(
     if !is_of_one(setup, jobs.as_slice()) {
         return Err(FarmFault::BadSetup);
     }
-    match solve_on_one(alloc, setup, jobs, executor) {
-        Ok(end) => Ok(end),
-        Err(fault) => Err(beside_setup(fault)),
-    }
+    solve_on_one(alloc, setup, jobs, executor).map_err(beside_setup)
 }
 
 /// Solves the jobs, which are all on node 1.

@@ -1,9 +1,8 @@
 //! A run of one executor, on a board to which nobody else comes.
-ghost use Rattle.std.specs.Prelude.{◌≡◌, All, IfOk, IfErr, IfSome, OnOk, None};
+ghost use Rattle.std.specs.Prelude.{◌≡◌, All, IfOk, IfErr, OnOk, None};
 ghost use Rattle.farm_base.specs.declared.want.Want.{Want as SpecWant};
 ghost use Rattle.executions.specs.Live.{files_in};
 ghost use Rattle.solving.specs.Batches.{batches_of, with_batches, IsStopped};
-ghost use Rattle.solving.specs.Leases.{IsReplyTo};
 ghost use Rattle.solving.specs.Places.{IsSeenIn};
 
 use super::driver::{Ground, solve};

@@ -1,5 +1,5 @@
-use Rattle.std.proofs.Common.{rules, ◌≡◌, ℕ, List, [], ◌∷◌, ◌++◌, ◌+◌, ◌≤◌, Some, slice_get, take, length, refl, sym, ap, ◌∙◌, subst}
-use Rattle.std.specs.List.{AllZip, enumerate_from, flat_map}
+use Rattle.std.proofs.Common.{◌≡◌, ℕ, List, [], ◌∷◌, ◌++◌, ◌≤◌, take, length, refl, sym, ap, ◌∙◌, subst}
+use Rattle.std.specs.List.{AllZip, enumerate_from}
 use Rattle.std.specs.String.{string_bytes}
 use Rattle.lists.proofs.Places.{AllZip-push}
 use Rattle.vertices.specs.declared.vertex.Vertex.{Vertex}

@@ -12,8 +12,8 @@ use Rattle.nodefilter.specs.Starts.{place_in}
 use Rattle.nodefilter.proofs.StartLemmas.{kept_all, went_well}
 use Rattle.nodefilter.proofs.starting.start.Goals as goal
 
-pub returns : goal.returns
-returns g c =
+pub returns-clause-begun : goal.returns-clause-begun
+returns-clause-begun g c =
     let origin = c.args.origin in
     let resumed = c.in-Ok.resumed in
     let node = shown resumed.0 in
