@@ -135,8 +135,9 @@ class CoordinatorAgent:
             self._was_heard(int(words[1]))
         if words[0] == "who":
             node, ask, folders = int(words[1]), words[2], set(words[3:])
-            held = self.holders(node, folders)
-            self.setup.transport.send(node_address(node), self.hints.seal(f"held {node} {ask} {held}"))
+            with contextlib.suppress(FarmFault):  # while the coordinator refuses, nobody is told
+                held = self.holders(node, folders)
+                self.setup.transport.send(node_address(node), self.hints.seal(f"held {node} {ask} {held}"))
         if words[0] == "needs" and self.telling.acquire(blocking=False):  # one at a time: old questions come again too
             threading.Thread(target=self._tell_needed, args=(int(words[1]), words[2], int(words[3])), daemon=True).start()
 
