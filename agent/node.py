@@ -251,7 +251,7 @@ class NodeAgent:
                 told = held
                 said = patience.of_shared if any(folder.startswith("shared:") for folder in folders) else ""
                 patience.say(f"waiting for {', '.join(folders)}: {told}{said and '. '}{said}")
-            return words[0] not in ("pending", "refused")
+            return words[0] != "pending" and words != ["refused", "OutOfMemory"]
 
         try:
             self.wait(epoch, patience, is_decided)

@@ -118,7 +118,7 @@ class RedisStore:
         if bad:
             raise ChunksMissing(f"{bad} chunks of a version are neither here nor, as they were sent, in the store over Redis")
         path = f"{self.folder.indexes}/{hashlib.sha256(index).hexdigest()}"
-        if not os.path.exists(path):
+        if index and not os.path.exists(path):
             put_file(path, index)  # all of it is here: this machine can offer it
 
     def _take(self, name: str, sealed: object) -> bool:

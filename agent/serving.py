@@ -4,6 +4,7 @@ Owes the filters that one agent alone serves a home, which their own locks see t
 """
 from __future__ import annotations
 
+import contextlib
 import os
 import signal
 import sys
@@ -178,10 +179,19 @@ def serve(wanted: Wanted) -> int:
                 pass
             break
     served.stop()
-    for path in (mark, f"{wanted.home}/pid"):
-        if os.path.exists(path):
-            os.unlink(path)
+    if os.path.exists(mark):
+        os.unlink(mark)
+    _forget_pid(f"{wanted.home}/pid")
     return 0
+
+
+def _forget_pid(path: str) -> None:
+    """Removes what names this process, unless the next one of this home has begun."""
+    with contextlib.suppress(OSError):
+        with open(path) as file:
+            is_ours = file.read() == f"{os.getpid()}\n"
+        if is_ours:
+            os.unlink(path)
 
 
 def answer_command(agent: NodeAgent, builds: Builds, wanted: Wanted, asked: dict[str, Any], link: Connection) -> int:

@@ -4,6 +4,7 @@ from __future__ import annotations
 import mmap
 import os
 import subprocess
+import tempfile
 import unittest
 from typing import Callable
 from unittest import mock
@@ -170,6 +171,12 @@ class Standing(support.RoomTest):
             mapped[0:1] = bytes([mapped[0] ^ 1])
             mapped.flush()
         self.assertNotEqual(signature(self.path("w")), before, "a write through a mapping")
+
+    @unittest.skipUnless(os.path.isdir("/dev/shm"), "there is no tmpfs at /dev/shm")
+    def test_not_trusted(self) -> None:
+        """On a tmpfs a write through a mapping may leave a file's times as they were."""
+        with tempfile.TemporaryDirectory(dir="/dev/shm") as room:
+            self.assertIsNone(signature(room))
 
     @unittest.skipUnless(support.has("casync"), support.needs("casync"))
     def test_places(self) -> None:
