@@ -64,12 +64,14 @@ class Buildah:
         self.storage = ["--root", f"{home}/root", "--runroot", f"{home}/run", "--storage-driver", "vfs"]
 
     def _words(self, *words: str) -> list[str]:
+        if os.geteuid():
+            raise FarmFault("builds need the farm to run as root")
         return [need("buildah"), *self.storage, *words]
 
     def _call(self, *words: str) -> subprocess.CompletedProcess[str]:
         """A short call, outside any lease. It ends with the agent."""
         os.makedirs(f"{self.home}/tmp", exist_ok=True)
-        env = {"PATH": os.environ["PATH"], "HOME": self.home, "TMPDIR": f"{self.home}/tmp"}
+        env = {"PATH": os.environ.get("PATH", os.defpath), "HOME": self.home, "TMPDIR": f"{self.home}/tmp"}
         spec = {"command": self._words(*words), "cwd": "/", "env": env, "binds": [], "parent": os.getpid(), "namespace": False}
         with launcher(spec) as (call, said):
             return subprocess.run(call, pass_fds=said, stdin=subprocess.DEVNULL, capture_output=True, text=True, errors="replace")
@@ -96,7 +98,7 @@ class Buildah:
         words += ["--target", image.target] if image.target else []
         words += ["--format", image.format] if image.format else []
         words += ["--ignorefile", image.ignore_file] if image.ignore_file else []
-        return [*words, image.context], image.env | {"PATH": os.environ["PATH"], "TMPDIR": f"{image.room}/tmp", "HOME": image.room}
+        return [*words, image.context], image.env | {"PATH": os.environ.get("PATH", os.defpath), "TMPDIR": f"{image.room}/tmp", "HOME": image.room}
 
     def cache_place(self, image: Image, name: str) -> str:
         return f"{image.room}/tmp/buildah-cache/{name}"

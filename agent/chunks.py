@@ -45,3 +45,11 @@ def table(index: bytes) -> range:
 
 def chunk_path(folder: str, name: str) -> str:
     return os.path.join(folder, name[:4], f"{name}.cacnk")
+
+
+def is_kept(folder: str, name: str) -> bool:
+    """Whether a chunk is there. A power failure leaves a file without bytes of one that wasn't synced yet."""
+    try:
+        return os.path.getsize(chunk_path(folder, name)) > 0
+    except OSError:
+        return False

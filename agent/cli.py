@@ -14,7 +14,7 @@ import time
 from typing import Any, Callable, Iterator, Sequence
 
 from agent import client
-from agent.faults import FAULT, LOST, MISSING, FarmFault, UsageFault
+from agent.faults import FAULT, LOST, MISSING, USAGE, FarmFault, UsageFault, sentence, tell
 from agent.words import version_of, want_of
 
 LAST = 3  # versions of a folder that `status --json` and the page tell
@@ -66,7 +66,7 @@ def _serving_words(verbs: Any) -> None:
 def _run_words(verbs: Any) -> None:
     run = _verb(
         verbs, "run", do_run, "runs a command with its folders leased",
-        "farm run --folder locked:ccache=/tmp/ccache -- make CC='ccache gcc'",
+        "farm run --folder locked:ccache=/tmp/ccache -- make CCACHE_DIR=/tmp/ccache CC='ccache gcc'",
     )
     run.add_argument("--node", type=int, help="the node that runs it (the first one here)")
     run.add_argument("--folder", action="append", default=[], metavar="[ro=]FOLDER=PATH", help="locked:ID, private:ID or shared:ID")
@@ -106,7 +106,7 @@ def _asking_words(verbs: Any) -> None:
     get.add_argument("folder", metavar="FOLDER[@NUMBER]")
     get.add_argument("to", metavar="DIR")
     withdraw = _verb(verbs, "withdraw", do_withdraw, "ends a lease: its holder's commit won't count", "farm withdraw 17")
-    withdraw.add_argument("ticket", metavar="T")
+    withdraw.add_argument("ticket", type=int, metavar="T")
     retire = _verb(verbs, "retire", do_retire, "ends a node for good", "farm retire 3")
     retire.add_argument("node", type=int, metavar="N")
     retire.add_argument("--gone", action="store_true", help="the node is gone for good: you vouch that all it ran is over")
@@ -156,7 +156,7 @@ def start_farm(home: str) -> None:
 
     farmctl()  # a missing program is told here, and not in the farm's log
     os.makedirs(home, mode=0o700, exist_ok=True)
-    print(f"farm: no farm runs in {home}: one of one node is started", file=sys.stderr, flush=True)
+    tell(f"no farm runs in {home}: one of one node is started")
     words = [sys.executable, "-IS", os.path.join(TOP, "farm"), "up", "--home", home, "--nodes", "1", "--while-used", "--verbose"]
     with open(f"{home}/farm.log", "ab") as log:
         begun = log.tell()
@@ -169,7 +169,8 @@ def start_farm(home: str) -> None:
             said.seek(begun)
             last = said.read().decode(errors="replace").strip().splitlines()[-1:]
         fault = FarmFault(last[0].removeprefix("farm: ") if last else "the farm doesn't start")
-        fault.status = MISSING if started.wait() == MISSING else fault.status
+        ended = started.wait()
+        fault.status = ended if ended in (USAGE, MISSING) else fault.status
         raise fault
 
 
@@ -212,12 +213,17 @@ def ask_node(home: str, node: int | None, what: dict[str, Any]) -> int:
     raise FarmFault(f"no farm answers in {home}")
 
 
+def own_umask() -> int:
+    os.umask(mask := os.umask(0o077))
+    return mask
+
+
 def do_run(args: argparse.Namespace) -> int:
     for word in args.folder:
         want_of(word)  # wrong words are told before a farm is started
     return ask_node(args.home, args.node, {
         "do": "run", "folders": args.folder, "command": args.command, "cwd": os.getcwd(), "env": dict(os.environ),
-        "wait": args.wait, "must_commit": args.must_commit, "on_lost": args.on_lost,
+        "wait": args.wait, "must_commit": args.must_commit, "on_lost": args.on_lost, "umask": own_umask(),
     })
 
 
@@ -316,7 +322,16 @@ def do_get(args: argparse.Namespace) -> int:
     index = store.index(found[-1]["digest"])
     if index is None:
         raise FarmFault(f"the content of version {found[-1]['version']} isn't in the store any more")
-    trees.extract(store, index, os.path.abspath(args.to))
+    to = os.path.abspath(args.to)
+    was_there = os.path.isdir(to)
+    try:
+        trees.extract(store, index, to)
+    except BaseException:
+        for name in os.listdir(to) if os.path.isdir(to) else []:
+            trees.remove(f"{to}/{name}")
+        if os.path.isdir(to) and not was_there:
+            os.rmdir(to)
+        raise
     return 0
 
 
@@ -366,21 +381,42 @@ def do_gc(args: argparse.Namespace) -> int:
     return 0
 
 
+def open_streams() -> None:
+    """Opens each standard stream that is closed, to nothing: what is opened next would be taken for it."""
+    while (handle := os.open(os.devnull, os.O_RDWR)) < 3:
+        os.set_inheritable(handle, True)
+    os.close(handle)
+    sys.stdout, sys.stderr = sys.stdout or open(1, "w", closefd=False), sys.stderr or open(2, "w", closefd=False)
+
+
 def main(words: Sequence[str] | None = None) -> int:
+    open_streams()
+    status = status_of(words)
+    try:
+        sys.stdout.flush()
+    except OSError as fault:
+        if not status:
+            tell(f"the standard output: {fault.strerror}")
+        os.dup2(os.open(os.devnull, os.O_WRONLY), 1)  # the rest is dropped
+        return status or FAULT
+    return status
+
+
+def status_of(words: Sequence[str] | None) -> int:
     try:
         args = parser().parse_args(words)
     except SystemExit as ended:
         return 64 if ended.code else 0
-    args.home = os.path.abspath(args.home)
-    if getattr(args, "contents", None):
-        args.contents = os.path.abspath(args.contents)
     try:
+        args.home = os.path.abspath(args.home)
+        if getattr(args, "contents", None):
+            args.contents = os.path.abspath(args.contents)
         return int(args.does(args))
     except FarmFault as fault:
-        print(f"farm: {fault}", file=sys.stderr)
+        tell(str(fault))
         return fault.status
     except OSError as fault:
-        print(f"farm: {fault.filename}: {fault.strerror}" if fault.filename else f"farm: {fault}", file=sys.stderr)
+        tell(sentence(fault))
         return FAULT
     except SystemExit as ended:
         return int(ended.code or 0)

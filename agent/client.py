@@ -8,11 +8,10 @@ import json
 import os
 import signal
 import socket
-import sys
 from types import FrameType
 from typing import Any
 
-from agent.faults import LOST, FarmFault
+from agent.faults import LOST, FarmFault, tell
 from agent.launch import PASSED
 
 
@@ -37,8 +36,10 @@ def ask(path: str, what: dict[str, Any], shows: bool = True) -> Asked:
             link.connect(path)
             socket.send_fds(link, [b"f"], [0, 1, 2])
             link.sendall(json.dumps(what).encode() + b"\n")
+        except (FileNotFoundError, ConnectionRefusedError):
+            raise NoFarm(f"no farm answers at {path}: farm up starts one, or name the --home of its coordinator") from None
         except OSError as fault:
-            raise NoFarm(f"no farm answers at {path}: {fault.strerror}") from None
+            raise NoFarm(f"no farm answers at {path}: {fault.strerror or fault}") from None
 
         def passes(number: int, _frame: FrameType | None) -> None:
             try:
@@ -46,7 +47,8 @@ def ask(path: str, what: dict[str, Any], shows: bool = True) -> Asked:
             except OSError:
                 pass
 
-        before = {number: signal.signal(number, passes) for number in PASSED} if what.get("signals") else {}
+        heeded = [number for number in PASSED if signal.getsignal(number) != signal.SIG_IGN]  # the others its caller keeps off, as nohup does
+        before = {number: signal.signal(number, passes) for number in heeded} if what.get("signals") else {}
         heard = False
         try:
             with link.makefile("rb") as stream:
@@ -61,7 +63,7 @@ def ask(path: str, what: dict[str, Any], shows: bool = True) -> Asked:
                 signal.signal(number, handler)
     if not heard:
         raise NoFarm(f"the farm at {path} is ending")
-    print("farm: the agent is gone, and what came of the command isn't known", file=sys.stderr, flush=True)
+    tell("the agent is gone, and what came of the command isn't known")
     return asked
 
 
@@ -75,7 +77,7 @@ def _take(asked: Asked, told: dict[str, Any], shows: bool) -> bool:
     elif told["say"]:
         asked.said.append(told["say"])
         if shows:
-            print(f"farm: {told['say']}", file=sys.stderr, flush=True)
+            tell(told["say"])
     return False
 
 

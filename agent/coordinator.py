@@ -23,6 +23,7 @@ from agent.words import DIGEST, is_folder
 NUDGE_MOST = 15.0
 AT_ONCE = 64  # lines that are carried together
 SINCE_MOST = 65_536  # leases whose beginning is known
+LOOK_EVERY = 5.0  # seconds, of a node: from one look whether the leases of its commands live to the next
 SILENT_LEAST = 3 * HEARTBEAT  # seconds: a shorter silence says nothing
 
 
@@ -34,6 +35,7 @@ class CoordinatorAgent:
         self.heard: dict[int, float] = {}  # of a node: the time of day at which it was heard
         self.spoke: dict[int, float] = {}  # of a node: the same by the clock that nobody sets
         self.last: dict[str, tuple[int, list[dict[str, Any]]]] = {}  # of a slot: its last number, and its last versions
+        self.looked: dict[int, float] = {}  # of a node: when it was looked whether its leases live
         self.begun = time.monotonic()
         self.lock = threading.Lock()
         self.telling = threading.Lock()
@@ -133,6 +135,8 @@ class CoordinatorAgent:
     def _hear_hint(self, words: list[str]) -> None:
         if words[0] == "here":
             self._was_heard(int(words[1]))
+            if words[2:]:
+                self._tell_ended(int(words[1]), {int(word) for word in words[2:]})
         if words[0] == "who":
             node, ask, folders = int(words[1]), words[2], set(words[3:])
             with contextlib.suppress(FarmFault):  # while the coordinator refuses, nobody is told
@@ -140,6 +144,16 @@ class CoordinatorAgent:
                 self.setup.transport.send(node_address(node), self.hints.seal(f"held {node} {ask} {held}"))
         if words[0] == "needs" and self.telling.acquire(blocking=False):  # one at a time: old questions come again too
             threading.Thread(target=self._tell_needed, args=(int(words[1]), words[2], int(words[3])), daemon=True).start()
+
+    def _tell_ended(self, node: int, tickets: set[int]) -> None:
+        """Tells a node which of the leases that its commands run under are over: a restart tells it nobody, and what was told may be lost."""
+        now = time.monotonic()
+        if now - self.looked.get(node, -LOOK_EVERY) < LOOK_EVERY:
+            return
+        self.looked[node] = now
+        with contextlib.suppress(FarmFault):
+            for ticket in tickets - {int(lease["ticket"]) for lease in self.status()["leases"]}:
+                self.setup.transport.send(node_address(node), self.hints.seal(f"ended {ticket} {node}"))
 
     def _tell_needed(self, node: int, word: str, keep: int) -> None:
         try:

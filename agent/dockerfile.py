@@ -14,8 +14,7 @@ from typing import Callable
 
 from agent.dockertext import BadDockerfile, Flag, Instruction, Unknown, expanded, flags_of, instructions, pairs_of, raw_words
 from agent.mounts import Mount, mount_of
-
-MOST_FOLDERS = 16  # of one lease
+from agent.words import MOST_FOLDERS
 
 
 @dataclass

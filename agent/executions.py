@@ -10,6 +10,7 @@ import contextlib
 import fcntl
 import marshal
 import os
+import resource
 import select
 import signal
 import subprocess
@@ -19,6 +20,7 @@ import time
 from typing import Any, Callable, Iterator
 
 from agent import launch
+from agent.faults import tell
 
 
 def _launcher_kept() -> int:
@@ -30,6 +32,15 @@ def _launcher_kept() -> int:
 
 
 LAUNCHER = _launcher_kept()
+OPEN_FILES = resource.getrlimit(resource.RLIMIT_NOFILE)  # how many a command may have, whatever the agent itself needs
+OPEN_MOST = 65_536  # that the agent may have: each command that waits has some
+
+
+def open_many() -> None:
+    soft, hard = OPEN_FILES
+    most = OPEN_MOST if hard == resource.RLIM_INFINITY else min(hard, OPEN_MOST)
+    if soft != resource.RLIM_INFINITY and soft < most:
+        resource.setrlimit(resource.RLIMIT_NOFILE, (most, hard))
 
 
 def can_have_namespaces() -> bool:
@@ -48,6 +59,17 @@ def launcher(spec: dict[str, Any]) -> Iterator[tuple[list[str], list[int]]]:
         marshal.dump(spec, said)
         said.flush()
         yield [sys.executable, "-I", "-S", f"/proc/self/fd/{LAUNCHER}", str(said.fileno()), str(LAUNCHER)], [said.fileno(), LAUNCHER]
+
+
+@contextlib.contextmanager
+def held_back() -> Iterator[None]:
+    """What is started meanwhile keeps the signals that it gets until it takes them: those that come before it can pass them on would be
+    lost, where this process ignores them."""
+    before = signal.pthread_sigmask(signal.SIG_BLOCK, launch.PASSED)
+    try:
+        yield
+    finally:
+        signal.pthread_sigmask(signal.SIG_SETMASK, before)
 
 
 class Execution:
@@ -117,7 +139,7 @@ class Executions:
                 time.sleep(0.02)
             if time.monotonic() > told:
                 told = time.monotonic() + 60.0
-                print("farm: commands of an earlier agent of this node still run: this one begins when they have ended", file=sys.stderr, flush=True)
+                tell("commands of an earlier agent of this node still run: this one begins when they have ended")
 
     def all_over(self) -> None:
         """Ends those that this agent knows, and waits until those of agents before it are over too."""
@@ -132,13 +154,16 @@ class Executions:
             os.close(handle)
 
     def start(
-        self, command: list[str], cwd: str, env: dict[str, str], streams: list[int], binds: list[tuple[str, str]]
+        self, command: list[str], cwd: str, env: dict[str, str], streams: list[int], binds: list[tuple[str, str, bool]], umask: int | None = None
     ) -> Execution:
         held = self._open()
         fcntl.flock(held, fcntl.LOCK_SH)
-        spec = {"command": command, "cwd": cwd, "env": env, "binds": binds, "parent": os.getpid(), "namespace": self.has_namespaces}
+        spec = {
+            "command": command, "cwd": cwd, "env": env, "umask": umask, "binds": binds, "parent": os.getpid(), "namespace": self.has_namespaces,
+            "files": OPEN_FILES,
+        }
         try:
-            with launcher(spec) as (words, said):
+            with launcher(spec) as (words, said), held_back():
                 process = subprocess.Popen(
                     words, stdin=streams[0], stdout=streams[1], stderr=streams[2], pass_fds=[held, *said], start_new_session=True
                 )

@@ -4,6 +4,9 @@ Owes the filters nothing: these are for people and scripts.
 """
 from __future__ import annotations
 
+import os
+import sys
+
 USAGE = 64  # the words of the command
 BAD_DOCKERFILE = 65
 MISSING = 69  # a program that the agent needs isn't there, or doesn't do what the agent needs
@@ -16,6 +19,11 @@ class FarmFault(Exception):
     """Why a command could not be done, in one sentence."""
 
     status = FAULT
+
+
+def sentence(fault: OSError) -> str:
+    """What the system refused."""
+    return f"{fault.filename}: {fault.strerror}" if fault.filename else str(fault.strerror or fault)
 
 
 class UsageFault(FarmFault):
@@ -46,3 +54,11 @@ class ClientGone(FarmFault):
     """Nobody waits for the command any more."""
 
     status = LOST
+
+
+def tell(text: str) -> None:
+    """Says something on the standard error. Where nobody can hear it any more, that changes nothing else."""
+    try:
+        print(f"farm: {text}", file=sys.stderr, flush=True)
+    except OSError:
+        sys.stderr = open(os.devnull, "w")  # what the old one still holds would become the status

@@ -9,6 +9,7 @@ from __future__ import annotations
 import ctypes
 import marshal
 import os
+import resource
 import signal
 import sys
 
@@ -18,7 +19,7 @@ if TYPE_CHECKING:
     from typing import Any, NoReturn
 
 CLONE_NEWNS, CLONE_NEWPID = 0x20000, 0x20000000
-MS_NOSUID, MS_NODEV, MS_NOEXEC, MS_BIND, MS_REC, MS_PRIVATE = 2, 4, 8, 4096, 16384, 1 << 18
+MS_RDONLY, MS_NOSUID, MS_NODEV, MS_NOEXEC, MS_REMOUNT, MS_BIND, MS_REC, MS_PRIVATE = 1, 2, 4, 8, 32, 4096, 16384, 1 << 18
 PR_SET_PDEATHSIG, PR_SET_CHILD_SUBREAPER = 1, 36
 ORPHANED = signal.SIGRTMIN + 5  # the parent has ended
 PASSED = (signal.SIGINT, signal.SIGTERM, signal.SIGHUP, signal.SIGQUIT, signal.SIGUSR1, signal.SIGUSR2)
@@ -84,12 +85,16 @@ def command(spec: dict[str, Any]) -> NoReturn:
     for number in (*PASSED, signal.SIGPIPE, ORPHANED):
         signal.signal(number, signal.SIG_DFL)
     signal.pthread_sigmask(signal.SIG_SETMASK, [])
+    if spec.get("umask") is not None:
+        os.umask(spec["umask"])
+    if "files" in spec:
+        resource.setrlimit(resource.RLIMIT_NOFILE, spec["files"])
     words = spec["command"]
     try:
         os.chdir(spec["cwd"])
         os.execvpe(words[0], words, spec["env"])
     except FileNotFoundError as fault:
-        fail(f"{fault.filename or words[0]}: no such file or command", 127)
+        fail(f"{spec['cwd'] if fault.filename == spec['cwd'] else words[0]}: no such file or command", 127)
     except (OSError, ValueError) as fault:
         fail(f"{words[0]}: {fault}", 126)
 
@@ -130,8 +135,10 @@ def first(spec: dict[str, Any]) -> NoReturn:
     signal.signal(ORPHANED, signal.SIG_IGN)
     checked(mount("none", "/", None, MS_REC | MS_PRIVATE), "mounts can't be made private")
     mount("proc", "/proc", "proc", MS_NOSUID | MS_NODEV | MS_NOEXEC)  # where it isn't allowed the old one stays
-    for source, target in spec["binds"]:
+    for source, target, writable in spec["binds"]:
         checked(mount(source, target, None, MS_BIND | MS_REC), f"{target} can't be bound")
+        if not writable:
+            checked(mount("none", target, None, MS_REMOUNT | MS_BIND | MS_RDONLY), f"{target} can't be made read-only")
     os._exit(tend(fork_command(spec), True))
 
 

@@ -8,7 +8,6 @@ from __future__ import annotations
 import contextlib
 import os
 import re
-import tempfile
 import threading
 import time
 from dataclasses import dataclass
@@ -31,6 +30,7 @@ STATES = ("pending", "granted", "running", "committed", "fenced", "released", "c
 STORE_FAULT = "refused StoreFault"
 RECALL = re.compile(r"recall [0-9]{1,4} [0-9]{1,20} ([0-9]{1,20}) ", re.ASCII)
 HEARTBEAT = 2.0
+LOOK = 0.2  # seconds after which it is seen that nobody waits any more
 REMEMBERED = 1024  # commits
 LACK_MOST, LACK_EVERY = 30.0, 5.0  # seconds for which chunks are asked for, and from one asking to the next
 
@@ -70,7 +70,8 @@ class NodeAgent:
         self.retired = False
         self.unwanted: set[tuple[int, int]] = set()  # epoch and ask: nobody waits for them, and no call takes them back
         self.holders: dict[int, str] = {}  # of an ask: who has its folders
-        self.ended: set[int] = set()  # tickets whose leases are said to have ended
+        self.running: set[int] = set()  # tickets of commands
+        self.ended: set[int] = set()  # tickets of these whose leases are said to have ended
         self.offered: dict[str, float] = {}  # of a content: when it was given to the store anew
         self.learned: dict[int, dict[str, tuple[int, str]]] = {}  # of a ticket: the versions of its commit
         self.needs = Needs()
@@ -133,9 +134,9 @@ class NodeAgent:
         if data is None:
             return False
         try:
-            with tempfile.NamedTemporaryFile(dir=self.home) as file:
-                file.write(data)
-                file.flush()
+            with self.places.rooms.room() as room:
+                with open(f"{room}/content", "wb") as file:
+                    file.write(data)
                 return not self.call(line_of("blob", file.name)).is_refused
         except (LifeOver, OSError):  # the other nodes are asked for it
             return False
@@ -150,7 +151,8 @@ class NodeAgent:
                 line = self.setup.transport.receive(node_address(self.node), 1.0)
                 if time.monotonic() - heard > HEARTBEAT:
                     heard = time.monotonic()
-                    self.setup.transport.send(COORDINATOR, self.hints.seal(f"here {self.node}"))
+                    here = " ".join(map(str, ["here", self.node, *list(self.running)]))
+                    self.setup.transport.send(COORDINATOR, self.hints.seal(here))
                 if line is not None:
                     self.receive(line)
             except LifeOver:
@@ -214,8 +216,10 @@ class NodeAgent:
             if is_done():
                 return
             patience.check()
+            due = time.monotonic() + delay
             with self.changed:
-                woken = self.changed.wait_for(lambda: self.events != seen, delay)
+                while not (woken := self.changed.wait_for(lambda: self.events != seen, LOOK)) and time.monotonic() < due:
+                    patience.check()
             if epoch != self.talk.epoch:
                 raise LifeOver("the node began a new life")
             if self.retired:
@@ -347,7 +351,7 @@ class NodeAgent:
         found = self.store.index(slot.digest)
         if found is not None:
             return found
-        with tempfile.TemporaryDirectory(dir=self.home) as room:
+        with self.places.rooms.room() as room:
             note = self.call(line_of("content", slot.digest, f"{room}/content"), epoch).note
             if not note.startswith("content "):
                 raise FarmFault(f"the content of {slot.name} isn't here: {note.removeprefix('refused ')}")

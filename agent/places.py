@@ -6,20 +6,25 @@ once. Nothing is replaced that isn't a folder which the farm itself put there.
 from __future__ import annotations
 
 import contextlib
+import errno
 import fcntl
 import hashlib
 import json
 import os
+import re
 import shutil
+import socket
+import subprocess
 import tempfile
 import threading
 import time
 from typing import Any, Callable, Iterator
 
 from agent import trees
-from agent.faults import FarmFault
-from agent.standing import signature
+from agent.faults import FarmFault, UsageFault
+from agent.standing import identity, signature
 from agent.store import Store, put_file
+from agent.trees import is_folder
 from agent.words import short_name
 
 
@@ -34,12 +39,19 @@ class Trash:
     def _sweep(self, *paths: str) -> None:
         def sweep() -> None:
             for path in paths:
-                shutil.rmtree(path, ignore_errors=True)
+                try:
+                    shutil.rmtree(path, ignore_errors=True)
+                except RecursionError:  # folders within folders
+                    subprocess.run(["rm", "-rf", path], stdin=subprocess.DEVNULL, stderr=subprocess.DEVNULL)
 
         threading.Thread(target=sweep, daemon=True).start()
 
     def take(self, path: str) -> None:
-        """Takes a folder away from its path."""
+        """Takes a folder away from its path. What is mounted within it isn't its own, and would be removed with it."""
+        whole = os.path.realpath(path)
+        for mounted in mounts():
+            if mounted != whole and is_within(mounted, whole):
+                raise FarmFault(f"{mounted} is mounted within {path}: unmount it first")
         room = tempfile.mkdtemp(dir=self.home)
         try:
             os.rename(path, f"{room}/old")
@@ -49,33 +61,123 @@ class Trash:
         self._sweep(room)
 
 
+class Rooms:
+    """Folders for what isn't kept. Each agent has them in a folder of its own, which it holds: what isn't held a killed one left, and the
+    next one removes it."""
+
+    def __init__(self, home: str, trash: Trash) -> None:
+        self.home, self.trash = f"{home}/rooms", trash
+        self.lock = threading.Lock()
+        self.own: str | None = None
+
+    @contextlib.contextmanager
+    def room(self) -> Iterator[str]:
+        with self.lock:
+            own = self.own = self.own or self._begin()
+        with tempfile.TemporaryDirectory(dir=own) as room:
+            yield room
+
+    def _begin(self) -> str:
+        os.makedirs(self.home, exist_ok=True)
+        whole = _held(self.home, fcntl.LOCK_EX)
+        try:
+            for name in os.listdir(self.home):
+                self._sweep(f"{self.home}/{name}")
+            own = tempfile.mkdtemp(dir=self.home)
+            _held(own, fcntl.LOCK_EX)  # as long as this process is there
+            return own
+        finally:
+            os.close(whole)
+
+    def _sweep(self, path: str) -> None:
+        try:
+            handle = _held(path, fcntl.LOCK_EX | fcntl.LOCK_NB)
+        except BlockingIOError:
+            return
+        try:
+            self.trash.take(path)
+        finally:
+            os.close(handle)
+
+
+def _held(folder: str, how: int) -> int:
+    """The descriptor of a folder, which holds its lock."""
+    handle = os.open(folder, os.O_RDONLY | os.O_DIRECTORY)
+    try:
+        fcntl.flock(handle, how)
+    except BaseException:
+        os.close(handle)
+        raise
+    return handle
+
+
+class Taken:
+    """The paths that commands have, of which none is another one, or within it."""
+
+    def __init__(self) -> None:
+        self.lock = threading.Lock()
+        self.paths: set[str] = set()
+
+    def take(self, path: str) -> bool:
+        with self.lock:
+            if any(is_within(path, other) or is_within(other, path) for other in self.paths):
+                return False
+            self.paths.add(path)
+            return True
+
+    def free(self, path: str) -> None:
+        with self.lock:
+            self.paths.discard(path)
+
+
+TAKEN = Taken()  # by commands of all nodes of this process
+
+
+def _bound(lock: socket.socket, path: str) -> bool:
+    """Gives a socket the path's name on this machine, which one has at a time, whichever home its farm has: until all who have it close it."""
+    folder, name = os.path.split(path)
+    os.makedirs(folder, exist_ok=True)
+    here = os.stat(folder)
+    try:
+        lock.bind(f"\0farm-path-{here.st_dev}-{here.st_ino}-{short_name(name, 'name')}")
+        return True
+    except OSError as fault:
+        if fault.errno != errno.EADDRINUSE:
+            raise
+        return False
+
+
 class Places:
     def __init__(self, home: str) -> None:
         self.home = f"{home}/places"
         os.makedirs(self.home, exist_ok=True)
         self.trash = Trash(home)
+        self.rooms = Rooms(home, self.trash)
+        self.locks: dict[str, int] = {}  # of a path that is held: the descriptor that holds it
 
     @contextlib.contextmanager
     def held(self, path: str, check: Callable[[], None] = lambda: None) -> Iterator[None]:
-        """Holds a path, waiting until no other command of this node has it."""
-        handle = os.open(f"{self.home}/{short_name(path, 'path')}.lock", os.O_RDWR | os.O_CREAT, 0o600)
+        """Holds a path, waiting until no other command of this machine has it, and none of this process what is within it or around it, and
+        nothing that a killed agent began fills it. Who holds several takes them in the order of `path_order`, or two would wait for each other."""
+        while not TAKEN.take(path):
+            check()
+            time.sleep(0.05)
         try:
-            while True:
-                try:
-                    fcntl.flock(handle, fcntl.LOCK_EX | fcntl.LOCK_NB)
-                    break
-                except BlockingIOError:
+            with socket.socket(socket.AF_UNIX) as lock:
+                while not _bound(lock, path):
                     check()
                     time.sleep(0.05)
-            yield
+                self.locks[path] = lock.fileno()
+                yield
         finally:
-            os.close(handle)
+            self.locks.pop(path, None)
+            TAKEN.free(path)
 
     def _known(self, path: str) -> str:
         return f"{self.home}/{short_name(path, 'path')}.json"
 
     def _read(self, path: str) -> list[Any]:
-        """What is known of a path: itself, the folder's device and number, and the version that it holds with its signature."""
+        """What is known of a path: itself, the folder's device and identity, and the version that it holds with its signature."""
         try:
             with open(self._known(path)) as file:
                 known = json.load(file)
@@ -84,24 +186,22 @@ class Places:
             return []
 
     def _note(self, path: str, digest: str | None, mark: str | None) -> None:
-        here = os.lstat(path)
-        put_file(self._known(path), json.dumps([path, here.st_dev, here.st_ino, digest, mark]).encode())
+        put_file(self._known(path), json.dumps([path, os.lstat(path).st_dev, identity(path), digest, mark]).encode())
 
     def _is_ours(self, path: str) -> bool:
-        here = os.lstat(path)
-        return self._read(path)[:3] == [path, here.st_dev, here.st_ino]
+        return self._read(path)[:3] == [path, os.lstat(path).st_dev, identity(path)]
 
     def _standing(self, path: str) -> str | None:
         """The digest of the version that a path still holds."""
         known = self._read(path)
-        if len(known) < 5 or None in known or os.path.islink(path) or not os.path.isdir(path) or not self._is_ours(path):
+        if len(known) < 5 or None in known or not is_folder(path) or not self._is_ours(path):
             return None
         return str(known[3]) if signature(path) == known[4] else None
 
     def clear(self, path: str) -> None:
         """Makes an empty folder at a path that is held."""
         if os.path.lexists(path):
-            if os.path.islink(path) or not os.path.isdir(path):
+            if not is_folder(path):
                 raise FarmFault(f"{path} is there, and is no folder")
             if os.listdir(path):
                 if not self._is_ours(path):
@@ -112,9 +212,8 @@ class Places:
 
     def forget(self, path: str) -> None:
         """Nobody uses the path any more, or will."""
-        for name in (self._known(path), f"{self.home}/{short_name(path, 'path')}.lock"):
-            with contextlib.suppress(FileNotFoundError):
-                os.unlink(name)
+        with contextlib.suppress(FileNotFoundError):
+            os.unlink(self._known(path))
 
     def fill(self, store: Store, index: bytes, path: str) -> None:
         """Makes a path that is held what an index says. Where it still is that nothing is done."""
@@ -122,11 +221,19 @@ class Places:
         if index and self._standing(path) == digest:
             return
         self.clear(path)
-        trees.extract(store, index, path)
+        trees.extract(store, index, path, self.locks.get(path))
         self._note(path, digest, signature(path) if index else None)
+
+    def left(self, path: str) -> None:
+        """The command that had the path is over: a folder that it put there in place of the old one is the farm's too."""
+        with contextlib.suppress(OSError):
+            if is_folder(path) and not self._is_ours(path):
+                self._note(path, None, None)
 
     def keep(self, store: Store, path: str) -> tuple[bytes, str]:
         """Keeps what a path holds, as `trees.keep` does. Where it still is the version that it was, its files aren't read."""
+        if not is_folder(path):
+            raise FarmFault(f"{path} is no folder any more, and nothing of it is kept")
         with store.making():
             digest = self._standing(path)
             index = store.index(digest) if digest else None
@@ -142,6 +249,23 @@ class Places:
             return index, digest
 
 
+def mounts() -> list[str]:
+    """Where something is mounted."""
+    with open("/proc/self/mountinfo", "rb") as file:
+        words = [line.split(b" ")[4] for line in file]
+    return [os.fsdecode(re.sub(rb"\\([0-7]{3})", lambda found: bytes([int(found[1], 8)]), word)) for word in words]
+
+
+def is_within(path: str, other: str) -> bool:
+    """Whether a path is another one, or within it."""
+    return f"{path}/".startswith(f"{other}/")
+
+
+def path_order(path: str) -> list[str]:
+    """What paths are sorted by, so that those within one stand right behind it."""
+    return path.split("/")
+
+
 def place_of(path: str, cwd: str) -> str:
     """The one name of a path."""
     whole = os.path.normpath(os.path.join(cwd, path))
@@ -154,5 +278,5 @@ def check_apart(paths: list[str]) -> None:
     """No path is another one, or within it."""
     for number, one in enumerate(paths):
         for other in paths[:number] + paths[number + 1 :]:
-            if f"{one}/".startswith(f"{other}/"):
-                raise FarmFault(f"{one} lies within {other}: folders of one command lie apart")
+            if is_within(one, other):
+                raise UsageFault(f"{one} lies within {other}: folders of one command lie apart")

@@ -10,13 +10,15 @@ import contextlib
 import hashlib
 import hmac
 import os
+import time
 
-from agent.chunks import chunk_names, chunk_path
+from agent.chunks import chunk_names, chunk_path, is_kept
 from agent.faults import FarmFault
-from agent.redis_wire import Redis, RedisFault, Word
+from agent.redis_wire import Redis, RedisAway, RedisFault, Word
 from agent.store import ChunksMissing, FolderStore, put_file
 
 AT_ONCE = 64  # chunks of one request
+AWAY = 120.0  # seconds for which a server that is away is tried again: what a command made would be lost
 SEAL = 32  # bytes
 
 # Redis keeps beside all keys when each was last given or found there: what is young isn't forgotten, since a commit of it may be under way.
@@ -76,13 +78,21 @@ class RedisStore:
         return True
 
     def _send(self, digest: str, index: bytes, anew: bool) -> None:
+        end = time.monotonic() + (0 if anew else AWAY)
+        while True:
+            try:
+                return self._send_all(digest, index, anew)
+            except RedisFault as fault:
+                is_away = isinstance(fault, RedisAway) or str(fault).startswith("LOADING")
+                if not is_away or time.monotonic() > end:
+                    raise FarmFault(f"the store over Redis took no contents: {fault}") from None
+            time.sleep(0.5)
+
+    def _send_all(self, digest: str, index: bytes, anew: bool) -> None:
         names = chunk_names(index)
-        try:
-            for at in range(0, len(names), AT_ONCE):
-                self._send_chunks(names[at : at + AT_ONCE], anew)
-            self.server.calls([self._script(GIVE, self._name("index", digest), index)])
-        except RedisFault as fault:
-            raise FarmFault(f"the store over Redis took no contents: {fault}") from None
+        for at in range(0, len(names), AT_ONCE):
+            self._send_chunks(names[at : at + AT_ONCE], anew)
+        self.server.calls([self._script(GIVE, self._name("index", digest), index)])
 
     def _send_chunks(self, names: list[str], anew: bool) -> None:
         there = [0] * len(names) if anew else self.server.calls([self._script(FIND, self._name("chunk", name)) for name in names])
@@ -106,7 +116,7 @@ class RedisStore:
         return data if isinstance(data, bytes) and hashlib.sha256(data).hexdigest() == digest else None
 
     def fetch(self, index: bytes) -> None:
-        missing = [name for name in chunk_names(index) if not os.path.exists(chunk_path(self.chunks, name))]
+        missing = [name for name in chunk_names(index) if not is_kept(self.chunks, name)]
         bad = 0
         try:
             for at in range(0, len(missing), AT_ONCE):

@@ -15,6 +15,11 @@ from agent.redis_wire import Redis
 LENGTH = 2_000  # lines that a stream keeps
 MOST = 1 << 20  # characters of a line: contents go through the store, so a longer one is lost
 AT_ONCE = 16  # lines of one request
+START = b"0-0"
+
+
+def _order(place: bytes) -> tuple[int, ...]:
+    return tuple(map(int, place.split(b"-")))
 
 
 class RedisTransport:
@@ -61,9 +66,13 @@ class RedisTransport:
         stream = self._stream(address)
         if address not in self.places:
             ends = self.server.call("XREVRANGE", stream, "+", "-", "COUNT", 1)
-            self.places[address] = ends[0][0] if ends else b"0-0"
+            self.places[address] = ends[0][0] if ends else START
         waited = max(1, int(timeout * 1000))
-        got = self.server.call("XREAD", "COUNT", AT_ONCE, "BLOCK", waited, "STREAMS", stream, self.places[address])
+        got, ends = self.server.calls([
+            ("XREAD", "COUNT", AT_ONCE, "BLOCK", waited, "STREAMS", stream, self.places[address]), ("XREVRANGE", stream, "+", "-", "COUNT", 1),
+        ])
+        if not got and _order(ends[0][0] if ends else START) < _order(self.places[address]):
+            self.places[address] = START  # the server lost the stream, and its clock is behind: what comes would never be read
         lines = []
         for place, fields in got[0][1] if got else []:
             self.places[address] = place

@@ -11,7 +11,7 @@ import time
 import urllib.parse
 from typing import Any, Sequence
 
-from agent.faults import Missing
+from agent.faults import Missing, UsageFault
 
 MOST = 512 << 20  # bytes of all values that come together: more than sixteen of the longest lines
 ITEM = 64  # bytes that an item of a list counts for
@@ -25,6 +25,10 @@ Reply = Any  # bytes, int, None, or a list of replies
 
 class RedisFault(Exception):
     """The server can't be reached, or refuses."""
+
+
+class RedisAway(RedisFault):
+    """The server can't be reached."""
 
 
 class Link:
@@ -108,9 +112,9 @@ class Redis:
         self.idle: list[Link] = []
         self.url = urllib.parse.urlsplit(url)
         self.lock = threading.Lock()
+        if self.url.scheme not in ("redis", "rediss"):
+            raise UsageFault("a broker is named as redis://HOST or rediss://HOST")
         try:
-            if self.url.scheme not in ("redis", "rediss"):
-                raise RedisFault("it begins with redis:// or rediss://")
             self._greet(time.monotonic() + LOADS)
         except RedisFault as why:
             # without the password
@@ -148,7 +152,7 @@ class Redis:
             replies = link.calls(commands)
         except (OSError, ValueError, RedisFault) as why:
             self._drop(link)
-            raise RedisFault(str(why) or type(why).__name__) from None
+            raise RedisAway(str(why) or type(why).__name__) from None
         except BaseException:
             self._drop(link)
             raise

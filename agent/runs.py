@@ -7,19 +7,19 @@ from __future__ import annotations
 
 import contextlib
 import signal
-import tempfile
 import time
 from dataclasses import dataclass, field
 from typing import Callable
 
 from agent.caller import Caller, Patience
 from agent.executions import Execution
-from agent.faults import ClientGone, FarmFault, LifeOver
+from agent.faults import ClientGone, FarmFault, LifeOver, UsageFault
 from agent.lines import line_of
 from agent.node import Ending, NodeAgent
-from agent.places import check_apart, place_of
+from agent.places import check_apart, path_order, place_of
 from agent.shared import Tenure
-from agent.words import Grant, Slot, Want
+from agent.tools import need
+from agent.words import MOST_FOLDERS, Grant, Slot, Want
 
 PATIENCE = 10.0  # seconds from the signal that asks a lost execution to stop to the one that ends it
 
@@ -40,6 +40,7 @@ class Job:
     of_shared: str = ""  # what is said where it waits for a SHARED folder
     filled: Callable[[Want, str, bool], None] = field(default=lambda want, path, is_new: None)
     left: Callable[[], None] = field(default=lambda: None)
+    umask: int | None = None
 
 
 class Run:
@@ -55,11 +56,15 @@ class Run:
         self.paths = {want.folder: place_of(want.path, job.cwd) for want in job.wants}
         check_apart(list(self.paths.values()))
         if len(self.paths) < len(job.wants):
-            raise FarmFault("a folder is named twice")
+            raise UsageFault("a folder is named twice")
+        if len(self.paths) > MOST_FOLDERS:
+            raise UsageFault(f"{len(self.paths)} folders: one lease has at most {MOST_FOLDERS}")
 
     def run(self) -> int:
         if any(want.is_shared for want in self.job.wants) and not self.agent.executions.has_namespaces:
             raise FarmFault("SHARED folders are bound in a mount namespace, and the kernel lets this agent have none: run it as root")
+        if self.job.wants:
+            need("casync")  # else all that the command does would be lost
         while True:
             self.epoch = self.agent.talk.settled_epoch()
             try:
@@ -129,21 +134,38 @@ class Run:
         agent.begin(grant.ticket, self.epoch, self.patience)
         slots = {slot.folder: slot for slot in grant.slots}
         binds = []
-        for path in sorted(self.paths.values()):  # in one order: no two runs wait for each other's paths
-            held.enter_context(agent.places.held(path, self.patience.check))
+        for path in sorted(self.paths.values(), key=path_order):  # no two runs wait for each other's paths
+            held.enter_context(agent.places.held(path, self._waits_for(path)))
         for want in self.job.wants:
             path = self.paths[want.folder]
             if want.is_shared:
                 agent.places.clear(path)
-                binds.append((tenures[want.folder].path, path))
+                binds.append((tenures[want.folder].path, path, want.writable))
             else:
                 self._fill(want, slots[want.folder], path)
-        status = self._command(grant.ticket, tenures, binds)
+        try:
+            status = self._command(grant.ticket, tenures, binds)
+        finally:
+            for want in self.job.wants:
+                if not want.is_shared:
+                    agent.places.left(self.paths[want.folder])
         self.job.left()
         if status and not self.job.keeps_failed:
             return status, []
-        room = held.enter_context(tempfile.TemporaryDirectory(dir=agent.home))
+        room = held.enter_context(agent.places.rooms.room())
         return status, [self._keep(slot, room) for slot in grant.slots if slot.writable]
+
+    def _waits_for(self, path: str) -> Callable[[], None]:
+        told = False
+
+        def check() -> None:
+            nonlocal told
+            if not told:
+                told = True
+                self.caller.say(f"waiting for {path}: another command of this machine has it, or what is within it or around it")
+            self.patience.check()
+
+        return check
 
     def _fill(self, want: Want, slot: Slot, path: str) -> None:
         self.agent.places.fill(self.agent.store, self.agent.content(slot, self.epoch, self.patience), path)
@@ -155,21 +177,25 @@ class Run:
             file.write(index)
         return slot.name, file.name
 
-    def _command(self, ticket: int, tenures: dict[str, Tenure], binds: list[tuple[str, str]]) -> int:
+    def _command(self, ticket: int, tenures: dict[str, Tenure], binds: list[tuple[str, str, bool]]) -> int:
         agent, job = self.agent, self.job
         if not agent.executions.has_namespaces:
             self.caller.say("the kernel gives this agent no pid namespace: what leaves the command's session can outlive it")
         with agent.talk.birth:  # no life begins between the look and the start
             if self.epoch != agent.talk.epoch or agent.talk.stopped:
                 raise LifeOver("the node began a new life, or ends")
+            if self.caller.gone:
+                raise ClientGone("nobody waits for it any more")
             self.begun = True
             for tenure in tenures.values():
                 tenure.used = True
-            execution = agent.executions.start(job.command, job.cwd, job.env, self.caller.streams, binds)
+            execution = agent.executions.start(job.command, job.cwd, job.env, self.caller.streams, binds, job.umask)
         self.caller.signalled = execution.signal
+        agent.running.add(ticket)
         try:
             return self._watch(ticket, execution)
         finally:
+            agent.running.discard(ticket)
             self.caller.signalled = None
             execution.end()
             agent.executions.over(execution)

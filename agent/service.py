@@ -5,6 +5,7 @@ Owes the filters that only who may enter the farm's home can ask, since operator
 from __future__ import annotations
 
 import array
+import contextlib
 import json
 import os
 import signal
@@ -14,7 +15,7 @@ import time
 import traceback
 from typing import IO, Any, Callable
 
-from agent.faults import BAD_DOCKERFILE, FAULT, FarmFault
+from agent.faults import BAD_DOCKERFILE, FAULT, FarmFault, sentence
 
 Handler = Callable[[dict[str, Any], "Connection"], int]
 ENDING = (signal.SIGINT, signal.SIGTERM, signal.SIGHUP, signal.SIGQUIT)
@@ -47,15 +48,16 @@ class Connection:
 
     def listen(self, reader: IO[bytes]) -> None:
         """Hears the command's signals, and whether it is still there."""
-        for raw in reader:
-            try:
-                number = json.loads(raw)["signal"]
-            except (ValueError, KeyError, TypeError):
-                break
-            if self.signalled:
-                self.signalled(number)
-            elif number in ENDING:  # no command runs that could hear it: it is as if its caller had gone
-                break
+        with contextlib.suppress(OSError):  # it was killed before it had read all
+            for raw in reader:
+                try:
+                    number = json.loads(raw)["signal"]
+                except (ValueError, KeyError, TypeError):
+                    break
+                if self.signalled:
+                    self.signalled(number)
+                elif number in ENDING:  # no command runs that could hear it: it is as if its caller had gone
+                    break
         self.gone = True
 
 
@@ -90,8 +92,9 @@ def handled(handler: Handler, asked: dict[str, Any], connection: Connection) -> 
         connection.say(("refused: " if fault.status == BAD_DOCKERFILE else "") + str(fault))
         return fault.status
     except Exception as fault:
-        traceback.print_exc()
-        connection.say(f"{type(fault).__name__}: {fault}")
+        with contextlib.suppress(OSError):
+            traceback.print_exc()
+        connection.say(sentence(fault) if isinstance(fault, OSError) else f"{type(fault).__name__}: {fault}")
         return FAULT
 
 
@@ -101,6 +104,7 @@ class Service:
     def __init__(self, path: str, handler: Handler) -> None:
         self.path, self.handler = path, handler
         self.busy = 0
+        self.used = time.monotonic()  # when the last request was answered
         self.closed = False
         self.lock = threading.Lock()
         if os.path.exists(path):
@@ -128,6 +132,7 @@ class Service:
         except OSError:
             pass
         finally:
+            self.used = time.monotonic()
             with self.lock:
                 self.busy -= 1
 

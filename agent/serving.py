@@ -15,7 +15,8 @@ from typing import Any
 
 from agent.builds import Build, Builds, BuildAsked
 from agent.coordinator import SILENT_LEAST, CoordinatorAgent
-from agent.faults import LOST, FarmFault, UsageFault
+from agent.executions import open_many
+from agent.faults import LOST, FarmFault, UsageFault, tell
 from agent.hints import Hints, make_key
 from agent.lines import line_of
 from agent.node import NodeAgent, Setup
@@ -77,8 +78,8 @@ def store_of(wanted: Wanted, hints: Hints) -> Store:
 def check(wanted: Wanted) -> None:
     """Refuses what can't be served, before anything of it is made."""
     home, mark = wanted.home, f"{wanted.home}/joined"
-    if len(home.encode()) > 80 or any(c.isspace() or c == "=" for c in home):
-        raise UsageFault(f"{home!r} is too long for a socket's path, or has a space or = in it: name another --home")
+    if len(os.fsencode(home)) > 80 or any(c.isspace() or c == "=" or "\ud800" <= c <= "\udfff" for c in home):
+        raise UsageFault(f"{home!r} is too long for a socket's path, or has a space, = or what isn't UTF-8 in it: name another --home")
     if wanted.lease_timeout is not None and wanted.lease_timeout < SILENT_LEAST:
         raise UsageFault(f"a node that is well may be silent for some seconds: --lease-timeout is at least {SILENT_LEAST:g}")
     if not wanted.broker and os.path.exists(mark):
@@ -106,11 +107,12 @@ def setup_of(wanted: Wanted) -> Setup:
 
     def log(text: str) -> None:
         if wanted.verbose:
-            print(f"{time.strftime('%H:%M:%S')} {text}", file=sys.stderr, flush=True)
+            with contextlib.suppress(OSError):  # what the filters say counts, whether anybody hears of it or not
+                print(f"{time.strftime('%H:%M:%S')} {text}", file=sys.stderr, flush=True)
 
     store = store_of(wanted, hints)
     if isinstance(store, RedisStore) and not store.keeps_well():
-        print("farm: Redis doesn't sync what it is given (appendonly yes, appendfsync always): its crash can lose contents", file=sys.stderr)
+        tell("Redis doesn't sync what it is given (appendonly yes, appendfsync always): its crash can lose contents")
     return Setup(program, wanted.home, key, store, transport, log)
 
 
@@ -156,19 +158,19 @@ def _serve(served: Served, name: str, handler: Handler) -> None:
 def serve(wanted: Wanted) -> int:
     """Serves until it is told to end, or nobody uses it any more."""
     over = threading.Event()
+    open_many()
     served = begin(wanted)  # until it stands a signal ends this process at once
     for number in (signal.SIGINT, signal.SIGTERM, signal.SIGHUP):
-        signal.signal(number, lambda *_: over.set())
+        if signal.getsignal(number) != signal.SIG_IGN:  # whoever started it keeps it off, as nohup does
+            signal.signal(number, lambda *_: over.set())
     with open(f"{wanted.home}/pid", "w") as file:
         file.write(f"{os.getpid()}\n")
     mark = f"{wanted.home}/served"
     if not wanted.while_used:
         open(mark, "w").close()  # it stands until a farm that people started has ended well: till then no command starts another in its place
     print("up", flush=True)
-    used = time.monotonic()
     while not over.wait(0.5):
-        if any(service.busy for service in served.services):
-            used = time.monotonic()
+        used = max(time.monotonic() if service.busy else service.used for service in served.services)
         if wanted.while_used and time.monotonic() - used > IDLE:
             for service in served.services:
                 service.close()
@@ -201,7 +203,7 @@ def answer_command(agent: NodeAgent, builds: Builds, wanted: Wanted, asked: dict
         wants = [want_of(word) for word in asked["folders"]]
         job = Job(
             asked["command"], asked["cwd"], asked["env"], wants, asked["wait"], asked["on_lost"] == "stop",
-            fenced_status=uncounted, lost_status=uncounted,
+            fenced_status=uncounted, lost_status=uncounted, umask=asked["umask"],
         )
         return Run(agent, job, link).run()
     if asked["do"] == "build":
@@ -233,7 +235,7 @@ def answer_operator(agent: CoordinatorAgent, wanted: Wanted, asked: dict[str, An
     elif what == "log":
         link.tell({slot: agent.versions(slot) for slot in agent.slots_of(asked["folder"])})
     elif what == "withdraw":
-        link.say(agent.operate("withdraw", asked["ticket"]))
+        link.say(agent.operate("withdraw", str(asked["ticket"])))
     elif what == "retire":
         link.say(agent.retire(int(asked["node"]), asked["gone"]))
     elif what == "prune":

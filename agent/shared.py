@@ -179,6 +179,6 @@ class SharedFolders:
             ending = agent.ending(tenure.ask, tenure.ticket, tenure.epoch)
             said = [f"{name} version {number}" for name, (number, _) in ending.versions.items()]
             return Closed(f"{ending.how} {tenure.ticket} {' '.join(said) or folder}", ending.how != "committed")
-        except (FarmFault, OSError) as fault:  # the last version stands
+        except Exception as fault:  # the last version stands
             agent.give_back(tenure.ticket, tenure.epoch)
             return Closed(f"lost {folder}: {fault}", True)

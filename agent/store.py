@@ -14,7 +14,7 @@ import tempfile
 import time
 from typing import Iterator, Protocol
 
-from agent.chunks import chunk_names, chunk_path
+from agent.chunks import chunk_names, chunk_path, is_kept
 from agent.faults import FarmFault
 from agent.words import DIGEST, EMPTY
 
@@ -119,7 +119,7 @@ class FolderStore:
         return data if hashlib.sha256(data).hexdigest() == digest else None
 
     def fetch(self, index: bytes) -> None:
-        missing = [name for name in chunk_names(index) if not os.path.exists(chunk_path(self.chunks, name))]
+        missing = [name for name in chunk_names(index) if not is_kept(self.chunks, name)]
         if missing:
             raise FarmFault(f"{len(missing)} chunks of a version aren't in {self.chunks}, {missing[0]} among them")
 
@@ -136,7 +136,10 @@ class FolderStore:
                 os.unlink(f"{self.indexes}/{name}")
             used = set()
             for digest in os.listdir(self.indexes):
-                used.update(chunk_names(self.index(digest) or b""))
+                index = self.index(digest)
+                if index is None and digest in needed:
+                    raise FarmFault(f"the content {digest} isn't readable, so no chunk is forgotten ({len(gone)} indexes were)")
+                used.update(chunk_names(index or b""))
             return len(gone), self._forget_chunks(used, oldest)
 
     def _forget_chunks(self, used: set[str], oldest: float) -> int:

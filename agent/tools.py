@@ -27,7 +27,7 @@ def farmctl() -> str:
     if given:
         found = shutil.which(given)
         if not found:
-            raise Missing(f"the farm's program isn't there: FARMCTL names {given}")
+            raise Missing(f"the farm's program isn't there, or can't be run: FARMCTL names {given}")
         return found
     built = os.path.join(TOP, "crates", "farmctl", "out", "farmctl")
     if not os.access(built, os.X_OK):

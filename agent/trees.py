@@ -1,17 +1,20 @@
 """A folder as a casync index, and back.
 
 Owes the filters that the same folder gives the same content, and that a content gives back the folder: names, bytes, modes, owners,
-times, links and pipes. Hard links become files of their own; device nodes and sockets are left out. That it lasts is the store's
-business.
+times, links and pipes. Hard links become files of their own; extended attributes, device nodes and sockets are left out; what couldn't
+be brought back is refused. That it lasts is the store's business.
 """
 from __future__ import annotations
 
+import contextlib
 import os
 import shutil
+import stat
 import subprocess
 import tempfile
-from typing import Iterator
+from typing import Iterator, Sequence
 
+from agent.chunks import chunk_names, chunk_path, is_kept
 from agent.faults import FarmFault
 from agent.store import Store
 from agent.tools import need
@@ -21,10 +24,12 @@ FEATURES = ("--with=permissions", "--with=symlinks", "--with=nsec-time", "--with
 WHOLE = "--exclude-nodump=no"  # else it leaves out the files that have the attribute `d`
 # It also leaves out what a file of this name lists, and no option changes that: in an index each such file has a `%` more.
 EXCLUDE = ".caexclude"
+LONGEST = 237  # bytes of the name of what is no folder: it is made under a name that is longer
 
 
-def _casync(*words: str) -> None:
-    done = subprocess.run([need("casync"), *words], stdin=subprocess.DEVNULL, capture_output=True, text=True, errors="replace")
+def _casync(*words: str, keeps: Sequence[int] = ()) -> None:
+    call = [need("casync"), *words]
+    done = subprocess.run(call, pass_fds=keeps, stdin=subprocess.DEVNULL, capture_output=True, text=True, errors="replace")
     if done.returncode:
         raise FarmFault(f"casync {words[0]}: {' '.join(done.stderr.split())[-300:]}")
 
@@ -59,15 +64,45 @@ def _show_excludes(path: str) -> None:
         _rename(folder, [(name, name[:-1]) for name in sorted(names, key=len) if name != EXCLUDE])
 
 
+def _check(path: str) -> None:
+    """Refuses what casync would keep and not bring back."""
+    for folder, folders, files in os.walk(path):
+        for name in ("", *folders, *files):
+            whole = f"{folder}/{name}"
+            here = os.lstat(whole)
+            if here.st_mtime_ns < 0:
+                raise FarmFault(f"{whole} can't be kept: its time is before 1970")
+            if len(os.fsencode(name)) > LONGEST and not stat.S_ISDIR(here.st_mode):
+                raise FarmFault(f"{whole} can't be kept: its name has more than {LONGEST} bytes")
+
+
+def _make(store: Store, path: str) -> bytes:
+    with tempfile.TemporaryDirectory() as room:
+        _casync("make", f"--store={store.chunks}", *FEATURES, WHOLE, f"{room}/made.caidx", path)
+        with open(f"{room}/made.caidx", "rb") as file:
+            return file.read()
+
+
+def _drop_hollow(store: Store, index: bytes) -> bool:
+    """Removes the chunks of an index that have no bytes, which casync takes for chunks that are there. Whether there was one."""
+    hollow = [name for name in chunk_names(index) if not is_kept(store.chunks, name)]
+    for name in hollow:
+        with contextlib.suppress(FileNotFoundError):
+            os.unlink(chunk_path(store.chunks, name))
+    return bool(hollow)
+
+
 def make(store: Store, path: str) -> bytes:
     """The index of a folder, whose chunks are in the store's folder then. Hold `store.making` from before it until the index is
     published."""
-    hidden = _hide_excludes(path)
     try:
-        with tempfile.TemporaryDirectory() as room:
-            _casync("make", f"--store={store.chunks}", *FEATURES, WHOLE, f"{room}/made.caidx", path)
-            with open(f"{room}/made.caidx", "rb") as file:
-                return file.read()
+        _check(path)
+        hidden = _hide_excludes(path)
+    except RecursionError:
+        raise FarmFault(f"{path} has too many folders within folders") from None
+    try:
+        index = _make(store, path)
+        return _make(store, path) if _drop_hollow(store, index) else index
     finally:
         if hidden:
             _show_excludes(path)
@@ -80,8 +115,8 @@ def keep(store: Store, path: str) -> tuple[bytes, str]:
         return index, store.publish(index)
 
 
-def extract(store: Store, index: bytes, path: str) -> None:
-    """Makes a folder, which isn't there yet or is empty, what an index says."""
+def extract(store: Store, index: bytes, path: str, lock: int | None = None) -> None:
+    """Makes a folder, which isn't there yet or is empty, what an index says. What fills it has the lock too, and may outlive the agent."""
     os.makedirs(path, exist_ok=True)
     if not index:
         return
@@ -89,13 +124,17 @@ def extract(store: Store, index: bytes, path: str) -> None:
     with tempfile.NamedTemporaryFile(suffix=".caidx") as file:
         file.write(index)
         file.flush()
-        _casync("extract", f"--store={store.chunks}", *FEATURES, file.name, path)
+        _casync("extract", f"--store={store.chunks}", *FEATURES, file.name, path, keeps=[] if lock is None else [lock])
     _show_excludes(path)
+
+
+def is_folder(path: str) -> bool:
+    return os.path.isdir(path) and not os.path.islink(path)
 
 
 def remove(path: str) -> None:
     """Removes a folder with all that it holds."""
-    if os.path.islink(path) or not os.path.isdir(path):
+    if not is_folder(path):
         if os.path.lexists(path):
             os.unlink(path)
         return

@@ -88,7 +88,8 @@ def serve(address: str, port: int, read: Callable[[], Any]) -> int:
     except (OSError, OverflowError, ValueError) as fault:
         raise FarmFault(f"no page at {address}, port {port}: {fault}") from None
     for number in (signal.SIGINT, signal.SIGTERM, signal.SIGHUP):
-        signal.signal(number, lambda *_: threading.Thread(target=server.shutdown).start())
+        if signal.getsignal(number) != signal.SIG_IGN:  # whoever started it keeps it off, as nohup does
+            signal.signal(number, lambda *_: threading.Thread(target=server.shutdown).start())
     print(f"http://{address}:{server.server_port}/", flush=True)
     server.serve_forever()
     server.server_close()

@@ -13,6 +13,7 @@ from agent.faults import UsageFault
 
 EMPTY = hashlib.sha256(b"").hexdigest()  # the content of a folder that has no version
 SHARINGS = ("shared", "private", "locked")
+MOST_FOLDERS = 16  # of one lease
 FOLDER = re.compile(r"(shared|private|locked):((?:[!-\"$&-?A-~]|%[0-9A-F]{2})*)(@[0-9a-f]{64}\.\d{1,19})?")
 DIGEST = re.compile(r"[0-9a-f]{64}")
 

@@ -4,8 +4,11 @@ from __future__ import annotations
 import os
 import shutil
 import unittest
+from unittest import mock
 
+from agent.builder import Buildah
 from agent.executions import can_have_namespaces
+from agent.faults import FarmFault
 
 from agent.tests import support
 
@@ -52,6 +55,8 @@ class Refused(support.FarmTest):
                 (["--target", "nowhere"], "refused: no stage is called nowhere")]
         for words, said in rows:
             self.assertRegex(self.asked("build", *words, self.path("context"), status=65), said)
+        with mock.patch("os.geteuid", return_value=1), self.assertRaisesRegex(FarmFault, "as root"):
+            Buildah(self.home).base_of("x")
 
 
 if __name__ == "__main__":

@@ -56,10 +56,10 @@ class Runs:
         return self.read("out")  # type: ignore[attr-defined,no-any-return]
 
     def test_statuses(self) -> None:
-        rows = [(("true",), 0), (("sh", "-c", "exit 7"), 7), (("sh", "-c", "kill -9 $$"), 137), (("/nowhere/x",), 127), (("/etc/passwd",), 126)]
+        rows = [(("true",), 0), (("nowhere",), 127), (("sh", "-c", "exit 7"), 7), (("sh", "-c", "kill -9 $$"), 137), (("/nowhere/x",), 127), (("/etc/passwd",), 126)]
         for words, wanted in rows:
             self.assertEqual(self.status(*words), wanted, words)  # type: ignore[attr-defined]
-        self.assertIn("no such file or command", self.said())  # type: ignore[attr-defined]
+        self.assertIn("farm: nowhere: no such file or command\n", self.said())  # type: ignore[attr-defined]
 
     def test_streams_folder_environment(self) -> None:
         execution = self.start("sh", "-c", "echo $A; pwd; echo err >&2; cat", env={"A": "b", "PATH": os.environ["PATH"]})
@@ -87,8 +87,14 @@ class Runs:
         execution.signal(signal.SIGTERM)
         self.assertEqual(execution.wait(10), 5)  # type: ignore[attr-defined]
         self.assertIn("heard", self.said())  # type: ignore[attr-defined]
-        execution = self.start("sleep", "41.5")
-        time.sleep(0.3)
+
+    def test_early_signal(self) -> None:
+        """A signal that comes before the command runs isn't lost, though the agent ignores it, as one started in the background does."""
+        before = signal.signal(signal.SIGINT, signal.SIG_IGN)
+        try:
+            execution = self.start("sleep", "41.5")
+        finally:
+            signal.signal(signal.SIGINT, before)
         execution.signal(signal.SIGINT)
         self.assertEqual(execution.wait(10), 130)  # type: ignore[attr-defined]
 
@@ -144,10 +150,12 @@ class InNamespace(Runs, support.RoomTest):
     def test_binds(self) -> None:
         os.makedirs(self.path("from"))
         os.makedirs(self.path("to"))
-        execution = self.executions.start(
-            ["sh", "-c", f"echo x > {self.path('to/f')}"], "/", {"PATH": "/bin"}, [0, 1, 2], [(self.path("from"), self.path("to"))]
-        )
-        self.assertEqual(execution.wait(10), 0)
+        for writable, text in ((True, "x"), (False, "y")):
+            execution = self.executions.start(
+                ["sh", "-c", f"echo {text} > {self.path('to/f')}"], "/", {"PATH": "/bin"}, [0, self.out, self.out],
+                [(self.path("from"), self.path("to"), writable)],
+            )
+            self.assertEqual(execution.wait(10) == 0, writable)
         self.assertEqual((self.read("from/f"), os.listdir(self.path("to"))), ("x\n", []))
 
 

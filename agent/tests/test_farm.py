@@ -7,12 +7,15 @@ import random
 import shutil
 import signal
 import subprocess
+import sys
 import threading
+import time
 import unittest
 
+from agent.caller import Patience
 from agent.coordinator import CoordinatorAgent
 from agent.executions import can_have_namespaces
-from agent.faults import LifeOver
+from agent.faults import LifeOver, WaitOver
 from agent.hints import make_key
 from agent.node import NodeAgent, Setup
 from agent.redis_wire import Redis
@@ -22,6 +25,7 @@ from agent.transport import LocalTransport
 from agent.words import Want
 
 from agent.tests import support
+from agent.tests.support import FARM
 
 
 @unittest.skipUnless(support.has("casync"), support.needs("casync"))
@@ -37,29 +41,94 @@ class Alone(support.FarmTest):
         failed = self.farm("run", "--folder", "locked:c=w", "--", "sh", "-c", "echo bad >> w/f; exit 3", status=3)
         self.assertIn("nothing of it is kept", failed.stderr)
         self.assertNotIn("started", failed.stderr)
+        self.farm("run", "--folder", "locked:c=w", "--", "sh", "-c", "mv w old; mkdir w; touch w/bad; exit 3", status=3)
         self.farm("run", "--folder", "ro=locked:c=w", "--", "sh", "-c", "cp w/f seen; echo no >> w/f")
+        own = os.umask(0o027)
+        try:
+            self.assertEqual(self.farm("run", "--", "sh", "-c", "umask").stdout, "0027\n")
+        finally:
+            os.umask(own)
         self.assertEqual(self.read("seen"), "one\n")
         self.farm("run", "--folder", "locked:c=w", "--", "sh", "-c", "echo two >> w/f")
-        self.assertRegex(self.asked("log", "locked:c"), r"\Alocked:c version 1 ticket 1 [0-9a-f]{64}\nlocked:c version 2 ticket 4 ")
+        self.assertRegex(self.asked("log", "locked:c"), r"\Alocked:c version 1 ticket 1 [0-9a-f]{64}\nlocked:c version 2 ticket 6 ")
+        many = [word for number in range(17) for word in ("--folder", f"locked:{number}=w{number}")]
+        self.assertIn("at most 16", self.asked("run", *many, "--", "true", status=64))
+        self.assertIn("named twice", self.asked("run", "--folder", "locked:c=w", "--folder", "locked:c=v", "--", "true", status=64))
+        self.assertIn("farm: /proc/w: No such file or directory\n", self.asked("run", "--folder", "locked:c=/proc/w", "--", "true", status=70))
         self.asked("get", "locked:c@1", self.path("first"))
         self.asked("get", "locked:c", self.path("last"))
         self.assertEqual((self.read("first/f"), self.read("last/f")), ("one\n", "one\ntwo\n"))
         self.assertIn("is there", self.asked("get", "locked:c", self.path("last"), status=70))
         self.assertIn("versions 1 to 2", self.asked("get", "locked:c@3", self.path("third"), status=70))
+        self.lost()
         self.asked("prune", "locked:c")
         self.assertIn("indexes", self.asked("gc", "--grace", "0"))
         self.assertIn("isn't in the store any more", self.asked("get", "locked:c@1", self.path("gone"), status=70))
         self.farm("run", "--folder", "locked:c=w", "--", "sh", "-c", "ls w > seen")
         self.assertEqual(self.read("seen"), "")
 
+    def test_streams(self) -> None:
+        """What its caller has closed a command finds empty, and may write to; a full disk is a fault."""
+        words = [*support.FARM, "run", "--", "sh", "-c", "cat; echo out; sleep 0.5; echo err >&2"]
+        closed = subprocess.run(["sh", "-c", 'exec "$@" <&- >&-', "sh", *words], env=self.env, stderr=subprocess.PIPE, text=True, timeout=60)
+        self.assertEqual((closed.returncode, closed.stderr.splitlines()[-1]), (0, "err"))
+        closed = subprocess.run(["sh", "-c", 'exec "$@" 2>&-', "sh", *words], env=self.env, stdin=subprocess.DEVNULL, stdout=subprocess.PIPE, text=True, timeout=60)
+        self.assertEqual((closed.returncode, closed.stdout), (0, "out\n"))
+        for verb in ("status", "--help"):
+            full = subprocess.run(["sh", "-c", 'exec "$@" >/dev/full', "sh", *support.FARM, verb], env=self.env, stderr=subprocess.PIPE, text=True)
+            self.assertEqual((full.returncode, full.stderr), (70, "farm: the standard output: No space left on device\n"))
+
+    def lost(self) -> None:
+        """What can't be shown whole isn't shown."""
+        os.rename(f"{self.home}/contents/chunks", self.path("chunks"))
+        os.makedirs(f"{self.home}/contents/chunks")
+        self.assertIn("aren't in", self.asked("get", "locked:c", self.path("gone"), status=70))
+        self.assertFalse(os.path.exists(self.path("gone")))
+        os.rmdir(f"{self.home}/contents/chunks")
+        os.rename(self.path("chunks"), f"{self.home}/contents/chunks")
+
+    def test_left_early(self) -> None:
+        """A command whose caller goes while its folder is filled doesn't begin. One that waits for a path is told."""
+        self.write("bin/casync", f'#!/bin/sh\n[ $1 = make ] || {{ touch {self.path("filling")}; until [ -e {self.path("go")} ]; do sleep 0.05; done; }}\nexec {shutil.which("casync")} "$@"\n')
+        os.chmod(self.path("bin/casync"), 0o755)
+        self.env["PATH"] = f"{self.path('bin')}:{self.env['PATH']}"
+        self.farm("run", "--folder", "locked:c=w", "--", "touch", "w/f")
+        run = self.begin("run", "--folder", "locked:c=v", "--", "touch", "ran")
+        self.wait_for(self.path("filling"))
+        other = self.begin("run", "--folder", "locked:d=v/sub", "--", "true")
+        assert other.stderr
+        self.assertIn(f"waiting for {os.path.realpath(self.room)}/v/sub: another command", other.stderr.readline())
+        run.send_signal(signal.SIGINT)
+        time.sleep(1.0)  # it is heard by then
+        self.write("go", "")
+        self.assertIn("nobody waits", run.communicate(timeout=30)[1])
+        self.assertEqual((run.returncode, os.path.exists(self.path("ran"))), (75, False))
+        other.communicate(timeout=30)
+        self.assertEqual(other.returncode, 0)
+
     def test_wrong_words(self) -> None:
         rows = [(["run", "--folder", "ccache=w", "--", "true"], 64, "is no folder"), (["run"], 64, "required"), (["what"], 64, "invalid choice"),
-                (["status"], 70, "no farm answers"), (["node", "9", "--broker", "redis://127.0.0.1:1"], 64, "no node 9 of 3"), (["gc", "--keep", "0"], 64, "at least 1")]
+                (["status"], 70, "farm up starts one"), (["withdraw", "x"], 64, "invalid int"), (["coordinator", "--broker", "10.0.0.1"], 64, "redis://HOST"),
+                (["run", "--home", self.path("my home"), "--", "true"], 64, "has a space"),
+                (["node", "9", "--broker", "redis://127.0.0.1:1"], 64, "no node 9 of 3"), (["gc", "--keep", "0"], 64, "at least 1"),
+                (["run", "--home", self.path("x" * 90), "--", "true"], 64, "too long"), (["up", "--home", self.path("\udcff")], 64, "isn't UTF-8"),
+                (["status", "--home", self.path("x" * 90)], 70, "path too long")]
         for words, status, said in rows:
             self.assertIn(said, self.asked(*words, status=status))
         for verb in ("", "run", "build", "up", "coordinator", "node", "status", "log", "get", "withdraw", "retire", "prune", "gc", "web"):
             said = self.asked("--help") if not verb else self.asked(verb, "--help")
             self.assertIn("example: farm" if verb else "statuses:", " ".join(said.split()))
+
+    def test_missing_tools(self) -> None:
+        old = "import sys; sys.version_info = (3, 9, 2); exec(open(sys.argv[1]).read())"
+        done = subprocess.run([sys.executable, "-c", old, f"{support.TOP}/farm"], capture_output=True, text=True)
+        self.assertEqual((done.returncode, done.stderr[:29]), (69, "farm: Python 3.11 or newer is"))
+        os.makedirs(self.path("bin"))
+        os.symlink(sys.executable, self.path("bin/python3"))
+        self.env["PATH"] = self.path("bin")
+        said = self.asked("run", "--folder", "locked:c=w", "--", "/bin/touch", self.path("ran"), status=69)
+        self.assertIn("apt-get install casync", said)
+        self.assertFalse(os.path.exists(self.path("ran")))
 
     def test_missing_program(self) -> None:
         for program, said in (("/nowhere/farmctl", "isn't there"), ("/bin/false", "doesn't start as the coordinator")):
@@ -153,6 +222,11 @@ class Nodes(support.FarmTest):
         run.communicate()
         self.kill_filter("coordinator")
         self.ended(self.run_on(2, "rm -f in"), 0)
+        run = self.run_on(1, "touch in; sleep 43.1", "--on-lost", "stop")
+        self.wait_for(self.path("in"))
+        self.kill_filter("coordinator")
+        self.assertIn("has ended", self.ended(run, 143))
+        os.unlink(self.path("in"))
         run = self.run_on(1, "touch in; sleep 43.2")
         self.wait_for(self.path("in"))
         self.agent.kill()
@@ -238,6 +312,67 @@ class Apart(support.FarmTest):
         self.assertIn("of a farm over a broker", self.asked("up", "--home", self.path("n1"), status=64))
 
 
+@unittest.skipUnless(support.has("casync"), support.needs("casync"))
+class Streams(support.FarmTest):
+    """Agents and callers whose standard streams are closed, or gone, and who are kept from signals."""
+
+    def shell(self, text: str, *words: str) -> subprocess.CompletedProcess[str]:
+        """A shell's command, in which `"$@"` is the farm with these words."""
+        return subprocess.run(["sh", "-c", text, "sh", *FARM, *words], env=self.env, cwd=self.room, input="exit 8", capture_output=True, text=True, timeout=30)
+
+    def start(self, text: str) -> None:
+        self.ups.append(subprocess.Popen(["sh", "-c", f'exec "$@" {text}', "sh", *FARM, "up", "--nodes", "1", "--verbose"], env=self.env, text=True))
+        self.wait_for(f"{self.home}/pid")
+
+    def test_closed(self) -> None:
+        self.start("<&- >&- 2>&-")
+        command = ("run", "--folder", "locked:c=w", "--", "sh", "-c", "echo one; sleep 0.5; read x; echo $x; exit 4")
+        done = self.shell('exec "$@" <&-', *command)
+        self.assertEqual((done.returncode, done.stdout), (4, "one\n\n"))
+        for closed in (">&-", "2>&-", "<&- >&- 2>&-"):
+            self.assertEqual(self.shell(f'exec "$@" {closed}', *command).returncode, 4, closed)
+        self.assertEqual(self.shell('exec "$@"', "run", "--", "sh").returncode, 8)
+
+    def test_gone(self) -> None:
+        self.start("2>/dev/full >/dev/null")
+        self.write("w/mine", "")
+        self.assertIn("wasn't made by this node", self.farm("run", "--folder", "locked:c=w", "--", "true", status=70).stderr)
+        self.assertIn("File exists", self.farm("run", "--folder", "locked:c=w/mine/x", "--", "true", status=70).stderr)
+        for status in (0, 9):
+            self.assertEqual(self.shell('exec "$@" 2>/dev/full', "run", "--folder", "locked:c=v", "--", "sh", "-c", f"exit {status}").returncode, status)
+
+    def test_many(self) -> None:
+        """More commands at once than there are descriptors, as long as an agent is given no more than usual."""
+        words = ["sh", "-c", 'ulimit -Sn 60; exec "$@"', "sh", *FARM, "up", "--nodes", "1"]
+        self.ups.append(subprocess.Popen(words, env=self.env, text=True, stdout=subprocess.PIPE))
+        self.wait_for(f"{self.home}/pid")
+        held = self.begin("run", "--folder", "locked:c=w", "--", "sh", "-c", "ulimit -Sn; touch in; until [ -e go ]; do sleep 0.05; done")
+        self.wait_for(self.path("in"))
+        runs = [self.begin("run", "--folder", f"locked:c=w{number}", "--", "true") for number in range(20)]
+        for run in runs:
+            assert run.stderr
+            self.assertIn("waiting for locked:c", run.stderr.readline())
+        self.write("go", "")
+        self.assertEqual(held.communicate(timeout=30)[0], "60\n")
+        for run in [held, *runs]:
+            run.communicate(timeout=30)
+            self.assertEqual(run.returncode, 0)
+
+    def test_kept_off(self) -> None:
+        """What keeps a signal from a command, as nohup does, keeps it from its caller and from an agent."""
+        before = signal.signal(signal.SIGHUP, signal.SIG_IGN)
+        try:
+            agent = self.up("up", "--nodes", "1")
+            run = self.begin("run", "--", "sh", "-c", "touch in; sleep 1; echo ended")
+        finally:
+            signal.signal(signal.SIGHUP, before)
+        self.wait_for(self.path("in"))
+        for process in (run, agent):
+            process.send_signal(signal.SIGHUP)
+        self.assertEqual(run.communicate(timeout=30)[0], "ended\n")
+        self.assertEqual((run.returncode, agent.poll()), (0, None))
+
+
 FAULTY = """#!/usr/bin/env python3
 import os, sys
 print("= life 1", flush=True)
@@ -259,6 +394,10 @@ class StoreFault(support.RoomTest):
         with self.assertRaises(LifeOver):
             agent.call("resend", 1)
         self.assertEqual((agent.talk.epoch, agent.call("resend", 2).note), (2, "resent"))
+        begun = time.monotonic()
+        with self.assertRaises(WaitOver):
+            agent.wait(2, Patience(None, 2.3), lambda: False)  # what it sends then it would send again after 2.4 more
+        self.assertLess(time.monotonic() - begun, 3.5)
 
 
 class Lossy(LocalTransport):

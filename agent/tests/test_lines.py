@@ -1,14 +1,20 @@
-"""The talk with a filter."""
+"""The talk with a filter, and with who asks an agent."""
 from __future__ import annotations
 
+import socket
 import sys
 import threading
+import time
 import unittest
+from typing import Any
 from unittest import mock
 
 from agent import tools
 from agent.faults import FarmFault, LifeOver, Missing
 from agent.lines import Answer, Filter, FilterGone, Talk, line_of
+from agent.service import Connection, Service
+
+from agent.tests import support
 
 ECHO = """
 import sys, os
@@ -127,6 +133,34 @@ class Lines(unittest.TestCase):
                 tools.need("casync")
             with self.assertRaisesRegex(Missing, "/nowhere/farmctl"):
                 tools.farmctl()
+
+
+class Sockets(support.RoomTest):
+    def test_killed(self) -> None:
+        """A caller that was killed before it had read what it was told is gone all the same."""
+        gone = threading.Event()
+
+        def waits(_asked: dict[str, Any], link: Connection) -> int:
+            while not link.gone:
+                time.sleep(0.01)
+            gone.set()
+            return 0
+
+        service = Service(self.path("s"), waits)
+        self.addCleanup(service.close)
+        threading.Thread(target=service.serve, daemon=True).start()
+        begun = service.used
+        with socket.socket(socket.AF_UNIX) as link:
+            link.connect(self.path("s"))
+            socket.send_fds(link, [b"f"], [0, 1, 2])
+            link.sendall(b"{}\n")
+            link.recv(1, socket.MSG_PEEK)
+        self.assertTrue(gone.wait(10))
+        for _ in range(100):
+            if service.used > begun:
+                break
+            time.sleep(0.05)
+        self.assertGreater(service.used, begun)
 
 
 if __name__ == "__main__":

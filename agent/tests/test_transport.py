@@ -3,13 +3,14 @@ from __future__ import annotations
 
 import os
 import socket
+import subprocess
 import threading
 import unittest
 import urllib.parse
 
 from agent import trees
 from agent.chunks import chunk_names
-from agent.faults import FarmFault, Missing
+from agent.faults import FarmFault, Missing, UsageFault
 from agent.hints import Hints, make_key
 from agent.needs import Needs, parts
 from agent.redis_store import RedisStore
@@ -84,6 +85,11 @@ class OverRedis(Carries):
             for text in ("a", "b"):
                 transport.server.call("XADD", "t:to:node.1", "*", "line", text)
             self.assertEqual([transport.receive("node.1", 1.0), transport.receive("node.1", 0)], ["a", "b"])
+            transport.server.call("XADD", "t:to:node.1", "9999999999999-0", "line", "of a clock that was ahead")
+            transport.receive("node.1", 1.0)
+            transport.server.call("FLUSHALL")
+            transport.receive("node.1", 0.05)
+            self.carries(transport)
             self.assertFalse(RedisStore(url, self.path("a"), "t", b"k").keeps_well())
         transport.send("node.1", "lost")
         self.assertIsNone(transport.receive("node.1", 0.05))
@@ -111,6 +117,27 @@ class OverRedis(Carries):
             trees.extract(other, index, self.path("out"))
             self.assertEqual(self.read("out/f"), "text" * 1000)
             self.assertIsNone(other.index("0" * 64))
+
+    @unittest.skipUnless(support.has("casync"), support.needs("casync"))
+    def test_away(self) -> None:
+        """What a command made isn't lost with a server that is away when it is to be kept. What a server refuses is told at once."""
+        with support.redis_server(self.room) as url:
+            store = RedisStore(url, self.path("a"), "t", b"k")
+            self.write("tree/f", "text" * 1000)
+            index, digest = trees.keep(store, self.path("tree"))
+            store.server.call("CONFIG", "SET", "maxmemory", "1")
+            with self.assertRaisesRegex(FarmFault, "took no contents: .*maxmemory"):
+                store.publish(index)
+        words = ["redis-server", "--port", url.rpartition(":")[2], "--bind", "127.0.0.1", "--save", "", "--logfile", self.path("log")]
+        back: list[subprocess.Popen[bytes]] = []
+        threading.Timer(1.5, lambda: back.append(subprocess.Popen(words))).start()
+        try:
+            self.assertEqual(store.publish(index), digest)
+            self.assertEqual(RedisStore(url, self.path("b"), "t", b"k").index(digest), index)
+        finally:
+            for server in back:
+                server.terminate()
+                server.wait()
 
     @unittest.skipUnless(support.has("casync"), support.needs("casync"))
     def test_forget(self) -> None:
@@ -146,8 +173,10 @@ class OverRedis(Carries):
                 Redis(url)
             Redis(url.replace("//", "//:a%20b@") + "/3").call("SET", "x", 5)
             self.assertEqual(Redis(url.replace("//", "//default:a%20b@") + "/3").call("GET", "x"), b"5")
-        for bad in ("http://127.0.0.1:1", "redis://127.0.0.1:1", "what"):
-            with self.assertRaisesRegex(Missing, "no Redis server answers"):
+        with self.assertRaisesRegex(Missing, "no Redis server answers"):
+            Redis("redis://127.0.0.1:1")
+        for bad in ("http://127.0.0.1:1", "what"):
+            with self.assertRaisesRegex(UsageFault, "redis://HOST"):
                 Redis(bad)
 
 

@@ -3,8 +3,11 @@ from __future__ import annotations
 
 import mmap
 import os
+import shutil
 import subprocess
+import sys
 import tempfile
+import time
 import unittest
 from typing import Callable
 from unittest import mock
@@ -12,8 +15,8 @@ from unittest import mock
 from agent import trees
 from agent.chunks import chunk_names, chunk_path
 from agent.faults import FarmFault
-from agent.places import Places, check_apart, place_of
-from agent.standing import signature
+from agent.places import Places, Trash, check_apart, path_order, place_of
+from agent.standing import identity, signature
 from agent.store import FolderStore, put_file
 from agent.words import EMPTY
 
@@ -68,6 +71,23 @@ class Trees(support.RoomTest):
         self.assertEqual(told(self.path("out")), before)
         self.assertEqual(trees.keep(self.store, self.path("out")), (index, digest))
 
+    def test_kept_or_refused(self) -> None:
+        """What couldn't be brought back isn't kept."""
+        self.write(f"tree/{'d' * 255}/{'f' * 237}", "x")
+        os.symlink("x", self.path(f"tree/{'é' * 118}"))
+        index, _ = trees.keep(self.store, self.path("tree"))
+        trees.extract(self.store, index, self.path("out"))
+        self.assertEqual(told(self.path("out")), told(self.path("tree")))
+        for name, said in (("f" * 238, "237 bytes"), ("é" * 119, "237 bytes"), ("old", "before 1970")):
+            path = self.write(f"bad/{name}", "x")
+            os.utime(path, (0, -1 if name == "old" else 0))
+            with self.assertRaisesRegex(FarmFault, said):
+                trees.keep(self.store, self.path("bad"))
+            os.unlink(path)
+        os.utime(self.path("bad"), (0, -1))
+        with self.assertRaisesRegex(FarmFault, "before 1970"):
+            trees.keep(self.store, self.path("bad"))
+
     def test_flag_nodump(self) -> None:
         self.write("tree/kept", "x")
         if not support.has("chattr") or subprocess.run(["chattr", "+d", self.path("tree/kept")], capture_output=True).returncode:
@@ -107,6 +127,53 @@ class Trees(support.RoomTest):
         put_file(f"{self.store.indexes}/{digest}", b"damaged")
         self.assertIsNone(self.store.index(digest))
         self.assertIsNone(self.store.index("../key"))
+
+    def test_long_names(self) -> None:
+        """What casync keeps and can't give back is refused before it is a version."""
+        for name in ("a" * trees.LONGEST, "é" * 118):
+            self.write(f"tree/{name}", name)
+        os.makedirs(self.path("tree/" + "d" * 255))
+        index, _ = trees.keep(self.store, self.path("tree"))
+        trees.extract(self.store, index, self.path("out"))
+        self.assertEqual(told(self.path("out")), told(self.path("tree")))
+        os.symlink("d" * 255, self.path("tree/" + "l" * (trees.LONGEST + 1)))
+        with self.assertRaisesRegex(FarmFault, "lll can.t be kept: its name"):
+            trees.keep(self.store, self.path("tree"))
+
+    def test_deep(self) -> None:
+        """More folders within folders than can be walked."""
+        self.write("tree/f", "x")
+        subprocess.run([sys.executable, "-c", "import os\nfor i in range(1200): os.mkdir('a'); os.chdir('a')"], cwd=self.path("tree"), check=True)
+        with self.assertRaisesRegex(FarmFault, "too many folders within folders"):
+            trees.keep(self.store, self.path("tree"))
+        self.assertIsNone(signature(self.path("tree")))
+        Trash(self.path("home")).take(self.path("tree"))
+        for _ in range(500):
+            if not os.listdir(self.path("home/trash")):
+                return
+            time.sleep(0.02)
+        self.fail("it is still in the trash")
+
+    def test_hollow(self) -> None:
+        """What a power failure left of chunks that nobody had synced is made anew."""
+        tree = self.tree()
+        index = trees.make(self.store, tree)
+        for name in chunk_names(index):
+            with open(chunk_path(self.store.chunks, name), "wb"):
+                pass
+        with self.assertRaisesRegex(FarmFault, "aren't in"):
+            self.store.fetch(index)
+        self.assertEqual(trees.keep(self.store, tree)[0], index)
+        trees.extract(self.store, index, self.path("out"))
+        self.assertEqual(told(self.path("out")), told(tree))
+
+    def test_forget_damaged(self) -> None:
+        """Chunks of a content that is needed stay, though its index can't be read: a filter may have it."""
+        index, digest = trees.keep(self.store, self.tree())
+        put_file(f"{self.store.indexes}/{digest}", b"damaged")
+        with self.assertRaisesRegex(FarmFault, "isn't readable"):
+            self.store.forget({digest}, -1)
+        trees.extract(self.store, index, self.path("out"))
 
     def test_forget(self) -> None:
         self.write("one/f", "a" * 300_000)
@@ -225,6 +292,114 @@ class Paths(support.RoomTest):
         os.makedirs(self.path("work/new"))
         places.clear(self.path("work/new"))
 
+    @unittest.skipUnless(support.is_root, "only root can mount")
+    def test_mounted(self) -> None:
+        """What others have mounted within a folder isn't removed with it."""
+        places, mounted = Places(self.path("home")), self.path("w/a \\ b")
+        places.clear(self.path("w"))
+        self.write("mine/f", "x")
+        os.makedirs(mounted)
+        if subprocess.run(["mount", "--bind", self.path("mine"), mounted], capture_output=True).returncode:
+            self.skipTest("nothing can be mounted here")
+        self.addCleanup(lambda: subprocess.run(["umount", mounted], stderr=subprocess.DEVNULL))
+        with self.assertRaisesRegex(FarmFault, "is mounted within"):
+            places.clear(self.path("w"))
+        subprocess.run(["umount", mounted], check=True)
+        places.clear(self.path("w"))
+        self.assertEqual((os.listdir(self.path("w")), self.read("mine/f")), ([], "x"))
+
+    def is_free(self, places: Places, path: str) -> bool:
+        def check() -> None:
+            raise FarmFault("it isn't free")
+
+        try:
+            with places.held(path, check):
+                return True
+        except FarmFault:
+            return False
+
+    def test_apart(self) -> None:
+        """What one command has no other one has, nor what is within it or around it, on whichever node."""
+        one, two = Places(self.path("home1")), Places(self.path("home2"))
+        with one.held(self.path("w/a")):
+            for places in (one, two):
+                free = [self.is_free(places, self.path(name)) for name in ("w/a", "w/a/b", "w", "w/ab", "x")]
+                self.assertEqual(free, [False, False, False, True, True])
+        self.assertTrue(self.is_free(two, self.path("w/a")))
+        self.assertEqual(sorted(["/a-b", "/a/c", "/a"], key=path_order), ["/a", "/a/c", "/a-b"])
+
+    def test_copied_home(self) -> None:
+        """Agents of two homes, one a copy of the other, give no path to two commands."""
+        Places(self.path("home")).clear(self.path("w"))
+        shutil.copytree(self.path("home"), self.path("copy"))
+        text = (
+            f"import sys, time; sys.path.insert(0, {support.TOP!r})\n"
+            "from agent.places import Places\n"
+            f"with Places({self.path('home')!r}).held({self.path('w')!r}):\n"
+            "    print('held', flush=True); time.sleep(60)\n"
+        )
+        other = subprocess.Popen([sys.executable, "-c", text], stdout=subprocess.PIPE, text=True)
+        assert other.stdout
+        other.stdout.readline()
+        copied = Places(self.path("copy"))
+        self.assertFalse(self.is_free(copied, self.path("w")))
+        other.kill()
+        other.communicate()
+        self.assertTrue(self.is_free(copied, self.path("w")))
+
+    def test_filled_by_another(self) -> None:
+        """What a killed agent fills no command has before casync has ended."""
+        self.write("bin/casync", f"#!/bin/sh\necho $$ > {self.path('pid')}.new; mv {self.path('pid')}.new {self.path('pid')}; exec sleep 60\n")
+        os.chmod(self.path("bin/casync"), 0o755)
+        text = (
+            f"import sys; sys.path.insert(0, {support.TOP!r})\n"
+            "from unittest import mock\n"
+            "from agent.places import Places\n"
+            f"places = Places({self.path('home')!r})\n"
+            f"with places.held({self.path('w')!r}):\n"
+            f"    places.fill(mock.Mock(), b'index', {self.path('w')!r})\n"
+        )
+        agent = subprocess.Popen([sys.executable, "-c", text], env=os.environ | {"PATH": f"{self.path('bin')}:{os.environ['PATH']}"})
+        for _ in range(500):
+            if os.path.exists(self.path("pid")):
+                break
+            time.sleep(0.02)
+        agent.kill()
+        agent.wait()
+        places = Places(self.path("home"))
+        self.assertFalse(self.is_free(places, self.path("w")))
+        os.kill(int(self.read("pid")), 9)
+        with places.held(self.path("w")):
+            pass
+
+    @unittest.skipUnless(support.has("casync"), support.needs("casync"))
+    def test_no_folder(self) -> None:
+        """What a command put in its folder's place is kept only where it is a folder."""
+        store, places, path = FolderStore(self.path("store")), Places(self.path("home")), self.path("w")
+        self.write("mine/f", "x")
+
+        def replaced(does: Callable[[str], object]) -> None:
+            places.clear(path)
+            os.rmdir(path)
+            does(path)
+            places.left(path)
+
+        rows: list[Callable[[str], object]] = [lambda path: os.symlink("mine", path), os.mkfifo, lambda path: self.write("w", "x"), lambda path: None]
+        for does in rows:
+            replaced(does)
+            with self.assertRaisesRegex(FarmFault, "is no folder any more"):
+                places.keep(store, path)
+            if os.path.lexists(path):
+                with self.assertRaisesRegex(FarmFault, "is no folder"):
+                    places.clear(path)
+                os.unlink(path)
+        places.clear(path)
+        os.rename(path, self.path("old"))
+        shutil.copytree(self.path("mine"), path)
+        places.left(path)
+        places.clear(path)
+        self.assertEqual((os.listdir(path), self.read("mine/f")), ([], "x"))
+
     def test_made_anew(self) -> None:
         places = Places(self.path("home"))
         places.clear(self.path("w"))
@@ -232,6 +407,44 @@ class Paths(support.RoomTest):
         self.write("w/f", "another's")
         with self.assertRaisesRegex(FarmFault, "wasn't made by this node"):
             places.clear(self.path("w"))
+
+    def test_number_given_again(self) -> None:
+        """A folder that somebody makes where the node's own was may get its number: it isn't the node's."""
+        places, path = Places(self.path("home")), self.path("w")
+        for _ in range(100):
+            places.clear(path)
+            number, born = identity(path)
+            os.rmdir(path)
+            os.mkdir(path)
+            if os.stat(path).st_ino == number and born is not None:
+                break
+            os.rmdir(path)
+        else:
+            self.skipTest("this file system gives no number again, or doesn't tell when a folder was made")
+        self.write("w/f", "another's")
+        with self.assertRaisesRegex(FarmFault, "wasn't made by this node"):
+            places.clear(path)
+        self.assertEqual(self.read("w/f"), "another's")
+
+    def test_rooms(self) -> None:
+        """What a killed process left goes with the next one that needs a room; what another one has stays."""
+        home = self.path("home")
+        text = (
+            f"import sys, time; sys.path.insert(0, {support.TOP!r})\n"
+            "from agent.places import Places\n"
+            f"with Places({home!r}).rooms.room() as room:\n"
+            "    print(room, flush=True); time.sleep(60)\n"
+        )
+        other = subprocess.Popen([sys.executable, "-c", text], stdout=subprocess.PIPE, text=True)
+        assert other.stdout
+        left = other.stdout.readline().rstrip("\n")
+        with Places(home).rooms.room() as own:
+            self.assertTrue(os.path.isdir(left) and os.path.isdir(own))
+        self.assertFalse(os.path.exists(own))
+        other.kill()
+        other.communicate()
+        with Places(home).rooms.room():
+            self.assertFalse(os.path.exists(left))
 
     def test_names(self) -> None:
         os.makedirs(self.path("real"))

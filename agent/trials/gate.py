@@ -232,7 +232,7 @@ def main() -> int:
     hows = [attempt_again(trial) for trial in TRIALS if not sys.argv[1:] or trial.__name__ in sys.argv[1:]]
     failed = hows.count("failed") + hows.count("wrong")
     print(f"the agent over the program: {hows.count('passed')} passed, {failed} failed, {hows.count('skipped')} skipped")
-    return 1 if failed else 0
+    return 1 if failed or not hows else 0
 
 
 if __name__ == "__main__":
