@@ -1,8 +1,8 @@
 -- What the program prints for a definition, a record or a schedule (this project's own).
 use Rattle.std.specs.Prelude.{◌≡◌, ⊤, ℕ, List, [], ◌∷◌, ◌++◌, length, map, codes, decimal, slice_get, Option, Some, None, Ok, Err}
-use Rattle.farm_base.specs.declared.digest.Digest.{Digest}
-use Rattle.farm_base.specs.declared.digest.Key.{Key}
-use Rattle.farm_base.specs.Digests.{digest_text, key_text}
+use Rattle.names.specs.declared.digest.Digest.{Digest}
+use Rattle.names.specs.declared.digest.Key.{Key}
+use Rattle.names.specs.Digests.{digest_text, key_text}
 use Rattle.vertices.specs.declared.vertex.Vertex.{Vertex}
 use Rattle.vertices.specs.Loading.{GraphParts, IsGraphOf, DefinitionCheck}
 use Rattle.opsproto.specs.declared.definition.Definition.{Definition}

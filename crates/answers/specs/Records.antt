@@ -4,13 +4,13 @@ use Rattle.std.specs.List.{flat_map}
 use Rattle.std.specs.Result.{result_err}
 use Rattle.farm_base.specs.declared.lease.Lease.{Lease}
 use Rattle.farm_base.specs.declared.lease.NodeLife.{NodeLife}
-use Rattle.farm_base.specs.declared.number.NodeId.{NodeId}
-use Rattle.farm_base.specs.Names.{slot_text}
-use Rattle.farm_base.specs.Slots.{SlotParts}
+use Rattle.names.specs.declared.number.NodeId.{NodeId}
+use Rattle.names.specs.Names.{slot_text}
+use Rattle.names.specs.Slots.{SlotParts}
 use Rattle.versions.specs.declared.lines.SlotLine.{SlotLine}
 use Rattle.words.specs.Words.{access_text}
 use Rattle.schedule.specs.Printing.{line_text}
-use Rattle.filekeeper.specs.Framing.{AreTextsOf}
+use Rattle.filekeeper.specs.Framing.{AreTextsOf, HasDamagedHead}
 use Rattle.recordparts.specs.declared.refusal.RecordRefusal.{RecordRefusal}
 use Rattle.saverecord.specs.declared.record.Record.{Record}
 use Rattle.saverecord.specs.Logs.{ledger_in}
@@ -104,8 +104,8 @@ IsFirstFault texts (failure.Entry place e) = (1 ≤ place) × BreaksAt texts pla
 IsFirstFault texts (failure.BadHead place) = ⊥
 IsFirstFault texts failure.Memory = ⊥
 
--- why a record's file and its log's hold nothing. Where a head is damaged is not told here
+-- why a record's file and its log's hold nothing
 abbrev pub HoldNothing : List ℕ → List ℕ → Failure → Type 0
-HoldNothing whole tail (failure.BadHead place) = ⊤
+HoldNothing whole tail (failure.BadHead place) = HasDamagedHead whole tail place
 HoldNothing whole tail failure.Memory = ⊤
 HoldNothing whole tail why = (texts : Texts) × AreTextsOf whole tail texts × IsFirstFault texts why

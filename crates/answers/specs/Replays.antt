@@ -1,6 +1,6 @@
 -- What the program prints for a schedule (this project's own).
 use Rattle.std.specs.Prelude.{◌≡◌, ⊤, ℕ, ◌+◌, List, [], ◌∷◌, ◌++◌, Result, Ok, Err}
-use Rattle.farm_base.specs.Contents.{content_digest}
+use Rattle.names.specs.Contents.{content_digest}
 use Rattle.protocol.specs.Farm.{farm_limits}
 use Rattle.schedule.specs.Printing.{outcome_text}
 use Rattle.protocol.specs.World.{start}

@@ -1,10 +1,10 @@
 -- What the program prints of the cache folders that a definition's vertices use (this project's own).
 use Rattle.std.specs.Prelude.{◌≡◌, ℕ, List, [], ◌∷◌, ◌++◌, codes}
 use Rattle.std.specs.List.{AllZip, enumerate_from, flat_map}
-use Rattle.farm_base.specs.declared.digest.Digest.{Digest}
-use Rattle.farm_base.specs.declared.digest.Key.{Key}
+use Rattle.names.specs.declared.digest.Digest.{Digest}
+use Rattle.names.specs.declared.digest.Key.{Key}
 use Rattle.farm_base.specs.declared.want.Want.{Want}
-use Rattle.farm_base.specs.Digests.{digest_text}
+use Rattle.names.specs.Digests.{digest_text}
 use Rattle.farm_base.specs.Wanted.{IsWants}
 use Rattle.words.specs.Words.{want_text}
 use Rattle.vertices.specs.declared.vertex.Vertex.{Vertex}

@@ -10,13 +10,13 @@ use Rattle.std.proofs.lemmas.List.Sums.{sum_by-append}
 use Rattle.std.proofs.lemmas.Map.Keys.{IsDistinct-push}
 use Rattle.std.proofs.lemmas.Option.{slice_get_within, get_or_from_slice_get}
 use Rattle.std.specs.List.Sorted.{IsPermutation}
-use Rattle.farm_base.specs.declared.folder.Base.{Base}
-use Rattle.farm_base.specs.declared.folder.FolderName.{FolderName}
+use Rattle.names.specs.declared.folder.Base.{Base}
+use Rattle.names.specs.declared.folder.FolderName.{FolderName}
 use Rattle.farm_base.specs.declared.want.Want.{Want}
-use Rattle.farm_base.specs.Folders.{folder_eq}
+use Rattle.names.specs.Folders.{folder_eq}
 use Rattle.farm_base.specs.Wanted.{folders}
-use Rattle.farm_base.proofs.CompareLaws.{folder_equivalence, folder_decides}
-use Rattle.farm_base.proofs.NameLaws.{folder_exact}
+use Rattle.names.proofs.CompareLaws.{folder_equivalence, folder_decides}
+use Rattle.names.proofs.NameLaws.{folder_exact}
 use Rattle.opsproto.specs.Scalars.{Text}
 use Rattle.opsproto.specs.declared.exec.Mount.{Mount}
 use Rattle.lists.proofs.Places.{take_push}

@@ -1,9 +1,9 @@
 -- A cache mount has one folder.
 use Rattle.std.proofs.Common.{◌≡◌, List, refl, sym, ap, ◌∙◌}
-use Rattle.farm_base.specs.declared.folder.Base.{Base}
-use Rattle.farm_base.specs.declared.folder.FolderName.{FolderName}
-use Rattle.farm_base.specs.declared.folder.Mode.{Mode}
-use Rattle.farm_base.specs.declared.folder.Mode.TheVariants.{Shared, Private, Locked}
+use Rattle.names.specs.declared.folder.Base.{Base}
+use Rattle.names.specs.declared.folder.FolderName.{FolderName}
+use Rattle.names.specs.declared.folder.Mode.{Mode}
+use Rattle.names.specs.declared.folder.Mode.TheVariants.{Shared, Private, Locked}
 use Rattle.opsproto.specs.Scalars.{Text}
 use Rattle.opsproto.specs.declared.exec.CacheOpt.{CacheOpt}
 use Rattle.opsproto.specs.declared.exec.Mount.{Mount}

@@ -3,13 +3,13 @@ use Rattle.std.proofs.Common.{◌≡◌, ℕ, zero, suc, ◌⊎◌, inl, inr, Bo
 use Rattle.std.specs.List.{Contains}
 use Rattle.std.specs.List.Sorted.{IsStrictlySortedBy}
 use Rattle.std.proofs.lemmas.Bool.{cases_Bool}
-use Rattle.farm_base.specs.declared.digest.Key.{Key}
-use Rattle.farm_base.specs.declared.folder.Base.{Base}
-use Rattle.farm_base.specs.declared.folder.FolderName.{FolderName}
+use Rattle.names.specs.declared.digest.Key.{Key}
+use Rattle.names.specs.declared.folder.Base.{Base}
+use Rattle.names.specs.declared.folder.FolderName.{FolderName}
 use Rattle.farm_base.specs.declared.want.Want.{Want}
-use Rattle.farm_base.specs.Folders.{folder_cmp}
+use Rattle.names.specs.Folders.{folder_cmp}
 use Rattle.farm_base.specs.Wanted.{folders, IsWants}
-use Rattle.farm_base.proofs.CompareLaws.{folder_total}
+use Rattle.names.proofs.CompareLaws.{folder_total}
 use Rattle.opsproto.specs.Scalars.{Text}
 use Rattle.opsproto.specs.declared.exec.Mount.{Mount}
 use Rattle.lists.proofs.Places.{Contains-cases}

@@ -1,7 +1,7 @@
 -- What is added to wants (this project's own).
 use Rattle.std.specs.Prelude.{◌↔◌, ◌⊎◌, List}
 use Rattle.std.specs.List.{Contains}
-use Rattle.farm_base.specs.declared.folder.FolderName.{FolderName}
+use Rattle.names.specs.declared.folder.FolderName.{FolderName}
 use Rattle.farm_base.specs.declared.want.Want.{Want}
 use Rattle.farm_base.specs.Wanted.{folders}
 use Rattle.cachemounts.specs.CacheWants.{to_write}

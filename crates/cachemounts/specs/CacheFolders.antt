@@ -1,11 +1,11 @@
 -- The folder of a cache mount.
 use Rattle.std.specs.Prelude.{◌≡◌, ℕ, ℤ, pos, negsuc, List, [], ◌∷◌, Option, Some, None, slice_get}
 use Rattle.std.specs.List.{AllZip}
-use Rattle.farm_base.specs.declared.digest.Key.{Key}
-use Rattle.farm_base.specs.declared.folder.Base.{Base}
-use Rattle.farm_base.specs.declared.folder.FolderName.{FolderName}
-use Rattle.farm_base.specs.declared.folder.Mode.{Mode}
-use Rattle.farm_base.specs.declared.folder.Mode.TheVariants.{Shared, Private, Locked}
+use Rattle.names.specs.declared.digest.Key.{Key}
+use Rattle.names.specs.declared.folder.Base.{Base}
+use Rattle.names.specs.declared.folder.FolderName.{FolderName}
+use Rattle.names.specs.declared.folder.Mode.{Mode}
+use Rattle.names.specs.declared.folder.Mode.TheVariants.{Shared, Private, Locked}
 use Rattle.opsproto.specs.Scalars.{Text}
 use Rattle.opsproto.specs.declared.exec.CacheOpt.{CacheOpt}
 use Rattle.opsproto.specs.declared.exec.Mount.{Mount}

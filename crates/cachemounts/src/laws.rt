@@ -1,5 +1,5 @@
 ghost use Rattle.std.specs.Prelude.{◌≡◌, ℕ, List};
-ghost use Rattle.farm_base.specs.declared.digest.Key.{Key};
+ghost use Rattle.names.specs.declared.digest.Key.{Key};
 ghost use Rattle.farm_base.specs.declared.want.Want.{Want};
 ghost use Rattle.farm_base.specs.Wanted.{IsWants};
 ghost use Rattle.vertices.specs.Loading.{GraphParts};

@@ -1,6 +1,6 @@
 ghost use Rattle.std.specs.Prelude.{◌<◌, length, IfOk, Contains};
 ghost use Rattle.std.specs.List.{All};
-ghost use Rattle.farm_base.specs.declared.folder.FolderName.{FolderName};
+ghost use Rattle.names.specs.declared.folder.FolderName.{FolderName};
 ghost use Rattle.farm_base.specs.Wanted.{folders};
 ghost use Rattle.solverkeys.specs.GraphKeys.{AreKeys};
 ghost use Rattle.cachemounts.specs.CacheWants.{IsWanted, AreWants};

@@ -1,8 +1,8 @@
 ghost use Rattle.std.specs.Prelude.{◌≡◌, ◌<◌, ◌≤◌, ◌+◌, ◌↔◌, ◌∷◌, [], false, length, Any, IfOk, IfSome, IfNone, IsTrue, OnOk, Some, Contains, slice_get};
 ghost use Rattle.std.specs.List.{All, IsDistinct};
-ghost use Rattle.farm_base.specs.declared.folder.Mode.TheVariants.{Shared};
+ghost use Rattle.names.specs.declared.folder.Mode.TheVariants.{Shared};
 ghost use Rattle.farm_base.specs.declared.want.Want.{Want as SpecWant};
-ghost use Rattle.farm_base.specs.Folders.{folder_eq};
+ghost use Rattle.names.specs.Folders.{folder_eq};
 ghost use Rattle.farm_base.specs.Wanted.{folders};
 ghost use Rattle.vertices.specs.OpChecks.{cache_count};
 ghost use Rattle.solverkeys.specs.GraphKeys.{AreKeys};

@@ -5,7 +5,7 @@ use answers::Command;
 use clap::builder::ValueParser;
 use clap::{Arg, ArgAction, ArgMatches, Error};
 use draw::Range;
-use farm_base::{EVENTS, NODES, NodeId};
+use names::{EVENTS, NODES, NodeId};
 use opsproto::LIMIT;
 use processes::{CoordinatorPlace, NodePlace};
 use std::alloc::{AllocError, Global};

@@ -6,7 +6,7 @@ use Rattle.events.specs.declared.answer.CoordNote.{CoordNote}
 use Rattle.events.specs.declared.answer.CoordRefusal.{CoordRefusal}
 use Rattle.protocol.specs.Ledger.{Work}
 use Rattle.saverecord.specs.Texts.{Texts}
-use Rattle.drafts.specs.Held.{ledger}
+use Rattle.effects.specs.Held.{ledger}
 use Rattle.ledger.specs.Seen.{Seen}
 use Rattle.ledger.specs.Settling.{Answers}
 use Rattle.ledger.specs.declared.handled.Handled.{Handled}

@@ -5,14 +5,15 @@ use Rattle.protocol.specs.Ledger.{Work}
 use Rattle.versions.specs.Additions.{IsReady}
 use Rattle.versions.specs.Lines.{room_needed}
 use Rattle.drafts.specs.declared.draft.Draft.{Draft}
-use Rattle.drafts.specs.declared.effects.Effects.{Effects}
-use Rattle.drafts.specs.declared.effects.Prepared.{Prepared}
-use Rattle.drafts.specs.declared.state.State.{State}
-use Rattle.drafts.specs.Held.{ledger}
-use Rattle.drafts.specs.Keeps.{held}
+use Rattle.effects.specs.declared.effects.Effects.{Effects}
+use Rattle.effects.specs.declared.effects.Prepared.{Prepared}
+use Rattle.effects.specs.declared.state.State.{State}
+use Rattle.effects.specs.Held.{ledger}
+use Rattle.effects.specs.Keeps.{held}
 use Rattle.ledger.specs.Prepared.{ChangesAsTold, IsPrepared}
-use Rattle.drafts.specs.Shown.{work, work_of}
-use Rattle.drafts.specs.Sound.{IsRightful}
+use Rattle.effects.specs.Shown.{work_of}
+use Rattle.drafts.specs.Shown.{work}
+use Rattle.effects.specs.Sound.{IsRightful}
 use Rattle.drafts.proofs.Drafting.{on-state, over}
 
 -- a draft's effects with room for what they add to the lines, where they may be saved

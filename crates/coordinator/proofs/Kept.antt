@@ -16,7 +16,7 @@ use Rattle.events.specs.declared.answer.Decision.{Decision}
 use Rattle.events.specs.declared.answer.Decision.TheVariants.{Give, Deny, Wait}
 use Rattle.protocol.proofs.Answering.{fitting_ask_is_granted}
 use Rattle.protocol.proofs.Base.{any_in}
-use Rattle.drafts.specs.Idle.{AreHeldUp}
+use Rattle.effects.specs.Sound.{AreHeldUp}
 use Rattle.coordinator.specs.Promises.{asked, granted, GrantsAtOnce}
 
 -- an ask that is held up isn't granted

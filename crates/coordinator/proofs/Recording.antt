@@ -9,7 +9,7 @@ use Rattle.protocol.proofs.Base.{all_in}
 use Rattle.protocol.proofs.Saving as saving
 use Rattle.protocol.proofs.Saving.{Apart}
 use Rattle.protocol.proofs.Owning.{handled_keeps}
-use Rattle.drafts.specs.Sound.{IsSound}
+use Rattle.effects.specs.Sound.{IsSound}
 use Rattle.coordinator.specs.Promises.{EndsOnlyItsOwn}
 use Rattle.ledger.specs.Prepared.{ChangesAsTold}
 use Rattle.ledger.proofs.Entries.{own_tickets}

@@ -1,6 +1,6 @@
 -- A ledger stays one that the coordinator may keep.
 use Rattle.std.proofs.Common.{◌≡◌, Result, Ok, subst}
-use Rattle.farm_base.specs.declared.limits.TheConstants.{NODES}
+use Rattle.names.specs.declared.limits.TheConstants.{NODES}
 use Rattle.farm_base.specs.declared.message.Request.{Request}
 use Rattle.farm_base.specs.declared.message.Request.TheVariants.{Hello, Acquire, Commit, Release}
 use Rattle.protocol.specs.Names.{NodeId, Slot, Ticket}
@@ -11,8 +11,9 @@ use Rattle.protocol.specs.Lawful.{IsNumber, IsSaid, IsLawfulWork}
 use Rattle.protocol.specs.Farm.{farm_limits}
 use Rattle.protocol.specs.Lawful as lawful
 use Rattle.protocol.proofs.Lawfulness.{every_ledger_stays_lawful}
-use Rattle.drafts.specs.Sound.{IsSound, IsRightful, IsRequest}
-use Rattle.drafts.specs.Idle.{AreHeldUp}
+use Rattle.effects.specs.Sound.{IsSound, IsRightful}
+use Rattle.drafts.specs.Requests.{IsRequest}
+use Rattle.effects.specs.Sound.{AreHeldUp}
 use Rattle.drafts.proofs.HeldUp.{handled-held, withdrawn-held, retired-held, pruned-held}
 use Rattle.drafts.proofs.SoundWords.{sound-handled}
 

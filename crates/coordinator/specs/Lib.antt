@@ -1,4 +1,4 @@
-pub use Rattle.drafts.specs.Held
+pub use Rattle.effects.specs.Held
 pub use Rattle.ledger.specs.Seen
 pub mod Promises
 pub mod Settling

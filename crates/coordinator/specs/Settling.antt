@@ -7,7 +7,7 @@ use Rattle.saverecord.specs.Logs.{saved_in}
 use Rattle.saverecord.specs.Texts.{Texts}
 use Rattle.saverecord.specs.declared.refusal.KeeperRefusal.{KeeperRefusal}
 use Rattle.saverecord.specs.declared.refusal.KeeperRefusal.TheVariants.{Fault}
-use Rattle.drafts.specs.Held.{ledger}
+use Rattle.effects.specs.Held.{ledger}
 use Rattle.ledger.specs.Seen.{Seen}
 use Rattle.ledger.specs.Settling.{Answers}
 use Rattle.ledger.specs.declared.handled.Handled.{Handled}

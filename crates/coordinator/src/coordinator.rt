@@ -2,8 +2,8 @@ ghost use Rattle.std.specs.Prelude.{◌≡◌, ◌≤◌, false, not, Some, Ok, 
 ghost use Rattle.std.specs.Result.{is_ok};
 ghost use Rattle.std.specs.List.{list_any};
 ghost use Rattle.std.specs.List.Sorted.{IsStrictlySortedBy};
-ghost use Rattle.farm_base.specs.Slots.{slot_cmp};
-ghost use Rattle.farm_base.specs.declared.limits.TheConstants.{NODES};
+ghost use Rattle.names.specs.Slots.{slot_cmp};
+ghost use Rattle.names.specs.declared.limits.TheConstants.{NODES};
 ghost use Rattle.holdings.specs.Leases.{among};
 ghost use Rattle.leases.specs.Table.{state_of};
 ghost use Rattle.versions.specs.Lines.{line_shown};
@@ -14,23 +14,24 @@ ghost use Rattle.protocol.specs.Machine.{ToCoord};
 ghost use Rattle.protocol.specs.Follows.{NoneReady};
 ghost use Rattle.protocol.specs.Lawful.{IsNumber, IsSaid};
 ghost use Rattle.protocol.specs.Ledger.{Work, begin_work, handled, withdrawn, retired, pruned, nudged};
-ghost use Rattle.drafts.specs.Held.{line_at, ledger};
+ghost use Rattle.effects.specs.Held.{line_at, ledger};
 ghost use Rattle.ledger.specs.Prepared.{IsPrepared};
 ghost use Rattle.coordinator.specs.Promises.{GrantsAtOnce, EndsOnlyItsOwn};
 ghost use Rattle.ledger.specs.Seen.{IsKeeping};
 ghost use Rattle.coordinator.specs.Settling.{Settles, TakesUp, Restarts, Syncs};
 ghost use Rattle.ledger.specs.Settling.{Answers, Loads, OnlyGrow, is_save_fault};
-ghost use Rattle.drafts.specs.Shown.{work_of};
+ghost use Rattle.effects.specs.Shown.{work_of};
 ghost use Rattle.saverecord.specs.Keepers.{HasFailed};
 
 use super::preparing::{
     prepare, prune_refusal, pruning, retirement, retirement_refusal, withdrawal, withdrawal_refusal,
 };
-use drafts::Prepared;
+use drafts::remind_all;
+use effects::Prepared;
 use events::{CoordNote, CoordRefusal, Kept};
 use farm_base::{Items, Lease, NodeId, NodeLife, Parked, Slot, Ticket, ToCoord};
 use leases::SlotState;
-use ledger::{Handled, Ledger};
+use ledger::{Handled, Ledger, is_save_fault};
 use saverecord::{Keeper, MemoryKeeper, SaveFault};
 use std::alloc::{AllocError, Global};
 use std::marker::Model;
@@ -73,13 +74,6 @@ impl<K: Keeper> Model for Coordinator<K> {
 pub struct NotStarted<K: Keeper> {
     pub keeper: K,
     pub refusal: CoordRefusal,
-}
-
-/// Whether the answer is that the save failed.
-fn is_save_fault(answer: &Result<Handled, CoordRefusal>) -> bool
-    ensures { result ≡ is_save_fault answer.now }
-{
-    matches!(answer, Err(CoordRefusal::SaveFault))
 }
 
 impl<K: Keeper> Coordinator<K> {
@@ -236,7 +230,7 @@ impl<K: Keeper> Coordinator<K> {
         if self.down {
             return Err(CoordRefusal::Down);
         }
-        let Ok(sends) = self.ledger.state().remind_all(alloc) else {
+        let Ok(sends) = remind_all(alloc, self.ledger.state()) else {
             return Err(CoordRefusal::OutOfMemory);
         };
         Ok(Handled {

@@ -1,16 +1,17 @@
 //! What a message or a call does to the state that a ledger keeps, worked out before anything changes.
 ghost use Rattle.std.specs.Prelude.{◌≡◌, IfOk, Ok, None};
 ghost use Rattle.std.specs.Result.{result_err};
-ghost use Rattle.farm_base.specs.declared.limits.TheConstants.{NODES};
+ghost use Rattle.names.specs.declared.limits.TheConstants.{NODES};
 ghost use Rattle.protocol.specs.Farm.{farm_limits};
 ghost use Rattle.protocol.specs.Lawful.{IsNumber, IsSaid};
 ghost use Rattle.protocol.specs.Ledger.{begin_work, handled, withdrawn, retired, pruned};
-ghost use Rattle.drafts.specs.Held.{ledger};
-ghost use Rattle.drafts.specs.Keeps.{held, IsKeepable};
-ghost use Rattle.drafts.specs.Shown.{work_of};
+ghost use Rattle.effects.specs.Held.{ledger};
+ghost use Rattle.effects.specs.Keeps.{held, IsKeepable};
+ghost use Rattle.effects.specs.Shown.{work_of};
 ghost use Rattle.ledger.specs.Prepared.{IsPrepared};
 
-use drafts::{Draft, Prepared, State, is_home};
+use drafts::{Draft, has_ticket, is_home};
+use effects::{Prepared, State};
 use events::CoordRefusal;
 use farm_base::{NodeId, Slot, Ticket, ToCoord};
 use std::alloc::{AllocError, Global};
@@ -101,7 +102,7 @@ pub(crate) fn prune_refusal(state: &State, slot: &Slot) -> Option<CoordRefusal>
         Some(CoordRefusal::SlotLeased)
     } else if !state.lines.has_version(slot) {
         Some(CoordRefusal::NoSuchSlot)
-    } else if state.has_ticket() {
+    } else if has_ticket(state) {
         None
     } else {
         Some(CoordRefusal::TicketsSpent)

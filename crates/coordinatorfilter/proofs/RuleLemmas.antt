@@ -8,8 +8,8 @@ use Rattle.coordinator.specs.Seen.{Seen}
 use Rattle.coordinator.specs.Settling.{SettlesWhile, Restarts}
 use Rattle.ledger.specs.Settling.{SavesIf, Answers, is_save_fault}
 use Rattle.ledger.proofs.Records.{held_in}
-use Rattle.farm_base.specs.declared.digest.Digest.{Digest}
-use Rattle.farm_base.specs.declared.limits.TheConstants.{NODES}
+use Rattle.names.specs.declared.digest.Digest.{Digest}
+use Rattle.names.specs.declared.limits.TheConstants.{NODES}
 use Rattle.farm_base.specs.declared.message.Message.{Message}
 use Rattle.farm_base.specs.declared.message.ToCoord.{ToCoord}
 use Rattle.filekeeper.specs.Keepers.{Filed, GatherSaves, FileGathers, FileSaves, FileLoads, FileSyncs, file_texts}

@@ -1,7 +1,7 @@
 -- What is shown of lines.
 use Rattle.std.proofs.Common.{◌≡◌, ℕ, suc, ◌+◌, ◌<◌, List, [], ◌∷◌, ◌++◌, Some, None, length, get_or, drop, refl, ap, ◌∙◌, sym, append_assoc, drop-cons, arith}
 use Rattle.std.specs.List.{flat_map, enumerate_from}
-use Rattle.farm_base.specs.declared.digest.Digest.{Digest}
+use Rattle.names.specs.declared.digest.Digest.{Digest}
 use Rattle.farm_base.specs.declared.message.LineVersion.{LineVersion}
 use Rattle.protocol.specs.Ledger.{last_digest}
 use Rattle.coordinatorfilter.specs.Shown.{version_line}

@@ -6,8 +6,8 @@ use Rattle.ledger.specs.declared.handled.Handled.{Handled}
 use Rattle.coordinator.specs.Held.{ledger}
 use Rattle.coordinator.specs.Seen.{Seen}
 use Rattle.coordinator.specs.Settling.{TakesUp}
-use Rattle.farm_base.specs.declared.digest.Digest.{Digest}
-use Rattle.farm_base.specs.declared.limits.TheConstants.{NODES}
+use Rattle.names.specs.declared.digest.Digest.{Digest}
+use Rattle.names.specs.declared.limits.TheConstants.{NODES}
 use Rattle.farm_base.specs.declared.message.Message.{Message}
 use Rattle.farm_base.specs.declared.message.ToCoord.{ToCoord}
 use Rattle.filekeeper.specs.Keepers.{GatherSaves, FileGathers, FileSaves, FileLoads, FileSyncs, file_texts}

@@ -3,14 +3,14 @@ use Rattle.std.specs.Prelude.{◌≡◌, ℕ, ◌-◌, Bool, true, false, not, L
 use Rattle.std.specs.List.{flat_map, enumerate_from}
 use Rattle.std.specs.List.Sorted.{IsStrictlySortedBy}
 use Rattle.coordinator.specs.Held.{Held, line_at}
-use Rattle.farm_base.specs.declared.digest.Digest.{Digest}
+use Rattle.names.specs.declared.digest.Digest.{Digest}
 use Rattle.farm_base.specs.declared.lease.NodeLife.{NodeLife}
 use Rattle.farm_base.specs.declared.message.LineVersion.{LineVersion}
-use Rattle.farm_base.specs.declared.number.NodeId.{NodeId}
-use Rattle.farm_base.specs.Contents.{empty_digest}
+use Rattle.names.specs.declared.number.NodeId.{NodeId}
+use Rattle.names.specs.Contents.{empty_digest}
 use Rattle.farm_base.specs.Kinds.{kind_of}
-use Rattle.farm_base.specs.Names.{slot_text}
-use Rattle.farm_base.specs.Slots.{SlotParts, slot_cmp}
+use Rattle.names.specs.Names.{slot_text}
+use Rattle.names.specs.Slots.{SlotParts, slot_cmp}
 use Rattle.words.specs.Words.{access_text, digits_text, want_text}
 use Rattle.farmwire.specs.Lines.{kind_text}
 use Rattle.farmwire.specs.Words.{spaced}

@@ -13,6 +13,7 @@ use coordinator::{Coordinator, Handled};
 use coordinatorlines::Call;
 use events::{CoordNote, CoordRefusal};
 use farm_base::{Items, Lease, Life, NodeId, NodeLife, ToCoord};
+use ledger::is_save_fault;
 use saverecord::Keeper;
 use std::alloc::{AllocError, Global};
 
@@ -47,13 +48,6 @@ fn answer<K: Keeper>(
         Call::Prune(slot) => coordinator.prune(alloc, slot),
         Call::Nudge => coordinator.nudge(alloc),
     }
-}
-
-/// Whether the answer is that the save failed.
-fn is_save_fault(answer: &Result<Handled, CoordRefusal>) -> bool
-    ensures { result ≡ is_save_fault answer.now }
-{
-    matches!(answer, Err(CoordRefusal::SaveFault))
 }
 
 /// Whether the call ends the lease, if it isn't refused.

@@ -1,5 +1,5 @@
 //! Laws of lines, and of a coordinator's filter.
-ghost use Rattle.farm_base.specs.declared.limits.TheConstants.{NODES};
+ghost use Rattle.names.specs.declared.limits.TheConstants.{NODES};
 ghost use Rattle.farm_base.specs.declared.message.ToCoord.{ToCoord};
 ghost use Rattle.farmwire.specs.Lawful as wire;
 ghost use Rattle.protocol.specs.Lawful.{IsSaid};

@@ -3,7 +3,7 @@ ghost use Rattle.std.specs.Prelude.{◌≡◌, ◌++◌, List, IfOk, OnOk, optio
 ghost use Rattle.std.specs.List.{flat_map};
 ghost use Rattle.std.specs.String.{string_bytes};
 ghost use Rattle.farm_base.specs.declared.message.LineVersion.{LineVersion};
-ghost use Rattle.farm_base.specs.Contents.{empty_digest};
+ghost use Rattle.names.specs.Contents.{empty_digest};
 ghost use Rattle.protocol.specs.Ledger.{last_digest};
 ghost use Rattle.coordinatorfilter.specs.Shown.{needed_fact, last_needed, bases_needed, needed_text, IsNeeded};
 ghost use Rattle.versions.specs.Lines.{line_shown};

@@ -1,6 +1,6 @@
 -- What is read can be carried out.
 use Rattle.std.proofs.Common.{ℕ, true, false, List, Result, Ok, Err, refl}
-use Rattle.farm_base.specs.declared.limits.TheConstants.{NODES}
+use Rattle.names.specs.declared.limits.TheConstants.{NODES}
 use Rattle.farm_base.specs.declared.message.Request.{Request}
 use Rattle.farm_base.specs.declared.message.Request.TheVariants.{Hello, Acquire, Commit, Release}
 use Rattle.farm_base.specs.declared.message.ToCoord.{ToCoord}

@@ -1,13 +1,13 @@
 -- What a line asks of a coordinator (this project's own).
 use Rattle.std.specs.Prelude.{◌≡◌, ◌≢◌, ℕ, ◌<◌, ◌^◌, List, ◌++◌, codes, decimal, Result, Ok, Err}
 use Rattle.std.specs.Str.{IsUtf8}
-use Rattle.farm_base.specs.declared.limits.TheConstants.{NODES}
+use Rattle.names.specs.declared.limits.TheConstants.{NODES}
 use Rattle.farm_base.specs.declared.message.Message.TheVariants as to
 use Rattle.farm_base.specs.declared.message.ToNode.{ToNode}
-use Rattle.farm_base.specs.declared.number.NodeId.{NodeId}
-use Rattle.farm_base.specs.declared.number.Ticket.{Ticket}
-use Rattle.farm_base.specs.Names.{slot_text, IsSlot}
-use Rattle.farm_base.specs.Slots.{SlotParts}
+use Rattle.names.specs.declared.number.NodeId.{NodeId}
+use Rattle.names.specs.declared.number.Ticket.{Ticket}
+use Rattle.names.specs.Names.{slot_text, IsSlot}
+use Rattle.names.specs.Slots.{SlotParts}
 use Rattle.farmwire.specs.declared.refusal.LineFault.TheVariants as line
 use Rattle.farmwire.specs.Sealed.{IsSealed, IsFault}
 use Rattle.protocol.specs.Lawful.{IsNumber, IsSaid}

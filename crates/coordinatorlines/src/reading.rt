@@ -1,10 +1,10 @@
 //! The call that a line asks for.
 ghost use Rattle.std.specs.Prelude.{◌≡◌, ◌≢◌, ◌<◌, ◌^◌, ◌++◌, decimal, IfOk, IfErr, IfSome, IfNone};
-ghost use Rattle.farm_base.specs.declared.limits.TheConstants.{NODES};
-ghost use Rattle.farm_base.specs.declared.number.NodeId.{NodeId};
-ghost use Rattle.farm_base.specs.declared.number.Ticket.{Ticket};
-ghost use Rattle.farm_base.specs.Names.{slot_text, IsSlot};
-ghost use Rattle.farm_base.specs.Slots.{SlotParts};
+ghost use Rattle.names.specs.declared.limits.TheConstants.{NODES};
+ghost use Rattle.names.specs.declared.number.NodeId.{NodeId};
+ghost use Rattle.names.specs.declared.number.Ticket.{Ticket};
+ghost use Rattle.names.specs.Names.{slot_text, IsSlot};
+ghost use Rattle.names.specs.Slots.{SlotParts};
 ghost use Rattle.protocol.specs.Lawful.{IsNumber};
 ghost use Rattle.coordinatorlines.specs.declared.call.Call.{Call};
 ghost use Rattle.coordinatorlines.specs.declared.call.Order.{Order};

@@ -9,11 +9,12 @@ use Rattle.versions.specs.Lines.{LineOf, line_at, lines_with, news_of}
 use Rattle.versions.specs.declared.lines.Added.{Added}
 use Rattle.versions.specs.declared.lines.SlotLine.{SlotLine}
 use Rattle.drafts.specs.declared.draft.Draft.{Draft}
-use Rattle.drafts.specs.declared.effects.Effects.{Effects}
-use Rattle.drafts.specs.declared.state.State.{State}
-use Rattle.drafts.specs.Keeps.{held}
-use Rattle.drafts.specs.Shown.{work, work_of, Makes, Finishes, Accepts, ended_committed}
-use Rattle.drafts.specs.Sound.{IsSound}
+use Rattle.effects.specs.declared.effects.Effects.{Effects}
+use Rattle.effects.specs.declared.state.State.{State}
+use Rattle.effects.specs.Keeps.{held}
+use Rattle.effects.specs.Shown.{work_of}
+use Rattle.drafts.specs.Shown.{work, Makes, Finishes, Accepts, ended_committed}
+use Rattle.effects.specs.Sound.{IsSound}
 
 -- nothing was done
 pub makes-none : (g : Work → Work) (a : Draft) → work a ≡ g (work a) → Makes g a a

@@ -14,7 +14,7 @@ use Rattle.events.specs.declared.answer.Decision.TheVariants.{Give, Deny, Wait}
 use Rattle.protocol.specs.Ledger.{Limits, Ledger, Lease, Work, begin_work, has_slot, some_lease, is_leased, is_free, all_taken, busy, pick, another, elsewhere, decision, lease_for, gives, carried_out, waits, tried, stays, try_all, waiting, retried, holds_wanted, recall, recalls, decided, acquiring, lease_of, is_parked, lease_under, may_commit, on_all, answered, committing, may_release, released, answering, is_older, is_older_ask, sees, is_home, newer_life, handled, withdrawn, is_at, goes, retired, prunes, pruned}
 use Rattle.protocol.specs.Lists.{is_nil}
 use Rattle.protocol.proofs.Base.{in_left, in_append, in_one, any_in, from_any, any_none, in_filter, from_filter}
-use Rattle.drafts.specs.Idle.{is_held_up, AreHeldUp}
+use Rattle.effects.specs.Sound.{is_held_up, AreHeldUp}
 use Rattle.drafts.proofs.OwnCalls.{withdrawal, retirement}
 use Rattle.drafts.proofs.OwnSends.{accepted}
 use Rattle.drafts.proofs.Prunes.{pruning}

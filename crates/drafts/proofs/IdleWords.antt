@@ -16,12 +16,13 @@ use Rattle.holdings.specs.Leases.{IsBefore}
 use Rattle.leaseindex.specs.declared.ending.Ending.{Ending}
 use Rattle.holdings.proofs.LeaseLemmas.{AllPairs-head, AllPairs-tail}
 use Rattle.protocol.proofs.Base.{true_false, any_in, from_any, from_filter, slot_eq_is}
-use Rattle.drafts.specs.Idle.{slots_under, is_open, is_held_up, AreHeldUp, IsIdle, AreIdle}
+use Rattle.drafts.specs.Idle.{slots_under, is_open, IsIdle, AreIdle}
+use Rattle.effects.specs.Sound.{is_held_up, AreHeldUp}
 use Rattle.parked.specs.Spent.{is_private_spent, is_noted, IsNoted, WantsNoneOf}
-use Rattle.farm_base.specs.declared.limits.TheConstants.{INSTANCES}
+use Rattle.names.specs.declared.limits.TheConstants.{INSTANCES}
 use Rattle.protocol.specs.Farm.{farm_limits}
-use Rattle.farm_base.specs.Folders.{folder_eq}
-use Rattle.farm_base.proofs.CompareLaws.{folder_eq-itself}
+use Rattle.names.specs.Folders.{folder_eq}
+use Rattle.names.proofs.CompareLaws.{folder_eq-itself}
 use Rattle.leaseindex.proofs.MarkLemmas.{drop-item}
 use Rattle.parked.specs.Over.{Begins, still_at}
 use Rattle.parked.specs.Noted.{WantsNone}

@@ -11,7 +11,7 @@ use Rattle.events.specs.declared.answer.CoordRefusal.{CoordRefusal}
 use Rattle.events.specs.declared.answer.CoordRefusal.TheVariants as refusal
 use Rattle.protocol.specs.Ledger.{Limits, Lease, Work, without, lease_under, has_ticket, retried, notes, withdraws, withdrawing, withdrawn, is_at, is_home, goes, retired}
 use Rattle.drafts.specs.Shown.{saved_under, withdraws_under}
-use Rattle.drafts.specs.Sound.{IsSound}
+use Rattle.effects.specs.Sound.{IsSound}
 use Rattle.drafts.proofs.Trying.{ticket-found}
 use Rattle.drafts.proofs.SoundWords.{sound-fewer, sound-retried}
 

@@ -6,7 +6,7 @@ use Rattle.std.specs.Prelude.{All}
 use Rattle.std.specs.List.{list_any}
 use Rattle.std.specs.Result.{result_err}
 use Rattle.std.proofs.lemmas.List.Elements.{All-cons, All-push}
-use Rattle.farm_base.proofs.CompareLaws as laws
+use Rattle.names.proofs.CompareLaws as laws
 use Rattle.protocol.specs.Lists.{is_nil}
 use Rattle.protocol.specs.Names.{Slot, slot_eq, Ticket, Digest}
 use Rattle.protocol.specs.Machine.{News, LineVersion, digest_for, version_of}
@@ -19,7 +19,7 @@ use Rattle.versions.specs.declared.lines.Added.{Added}
 use Rattle.versions.specs.declared.lines.SlotLine.{SlotLine}
 use Rattle.versions.specs.Additions.{HasRoom, IsAbove, AreReady}
 use Rattle.versions.specs.Lines.{line_at, lines_with, news_of}
-use Rattle.drafts.specs.Sound.{IsSound}
+use Rattle.effects.specs.Sound.{IsSound}
 
 -- what passes three tests
 passed : (a b c : Bool) (x y z : CoordRefusal) (r : Work) → result_err (cond a (Err x) (cond b (Err y) (cond c (Ok r) (Err z)))) ≡ None → (a ≡ false) × (b ≡ false) × (c ≡ true)

@@ -7,11 +7,11 @@ use Rattle.std.specs.List.Sorted.{IsStrictlySortedBy}
 use Rattle.std.specs.Ordering.{is_eq}
 use Rattle.std.specs.declared.cmp.Ordering.TheVariants.{Less}
 use Rattle.std.proofs.lemmas.List.Elements.{All-head, All-tail, All-cons, All-nil, All-filter, All-push}
-use Rattle.farm_base.specs.Slots.{slot_cmp}
+use Rattle.names.specs.Slots.{slot_cmp}
 use Rattle.farm_base.specs.Wanted.{IsWants}
 use Rattle.farm_base.specs.declared.message.Request.{Request}
 use Rattle.farm_base.specs.declared.message.Request.TheVariants.{Hello, Acquire, Commit, Release}
-use Rattle.farm_base.proofs.CompareLaws as laws
+use Rattle.names.proofs.CompareLaws as laws
 use Rattle.holdings.specs.Leases.{AreApart, Rises}
 use Rattle.holdings.proofs.LeaseLemmas.{AllPairs-head, AllPairs-tail}
 use Rattle.leaseindex.proofs.EndedLemmas.{leases-filter}
@@ -24,10 +24,11 @@ use Rattle.events.specs.declared.answer.Decision.{Decision}
 use Rattle.events.specs.declared.answer.Decision.TheVariants.{Give, Deny, Wait}
 use Rattle.versions.specs.declared.lines.Addition.{Addition}
 use Rattle.versions.specs.declared.lines.SlotLine.{SlotLine}
-use Rattle.drafts.specs.Held.{line_at}
+use Rattle.effects.specs.Held.{line_at}
 use Rattle.versions.specs.Lines.{news_of}
 use Rattle.versions.specs.Additions.{HasRoom, IsAbove, AreReady}
-use Rattle.drafts.specs.Sound.{IsOpen, IsSound, IsRequest}
+use Rattle.effects.specs.Sound.{IsOpen, IsSound}
+use Rattle.drafts.specs.Requests.{IsRequest}
 use Rattle.protocol.proofs.Base.{true_false}
 use Rattle.drafts.proofs.StateWords.{decision-is}
 use Rattle.drafts.proofs.Trying.{tried-is, retried-is}

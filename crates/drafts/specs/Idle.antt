@@ -14,14 +14,6 @@ slots_under (Some g) = g.slots
 abbrev pub is_open : List Lease → Slot × Bool → Bool
 is_open live x = not (is_private x.0.folder.mode) && not (some_lease live x.0)
 
--- the ask waits for the old home, or for a slot that is leased
-abbrev pub is_held_up : Ledger → Parked → Bool
-is_held_up q p = elsewhere q p || busy (is_leased q) (leased_wants p.tenure p.wants)
-
--- each parked ask does
-abbrev pub AreHeldUp : Ledger → Type 0
-AreHeldUp q = (p : Parked) → In p q.parked → is_held_up q p ≡ true
-
 -- the ask waits for the old home, or for a slot that is leased or was freed
 abbrev pub waits_for : List (Slot × Bool) → Ledger → Parked → Bool
 waits_for freed q p = elsewhere q p || busy (λ s. is_leased q s || has_slot freed s) (leased_wants p.tenure p.wants)

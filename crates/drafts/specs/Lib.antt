@@ -1,5 +1,3 @@
-pub mod Held
 pub mod Idle
-pub mod Keeps
+pub mod Requests
 pub mod Shown
-pub mod Sound

@@ -2,25 +2,27 @@
 ghost use Rattle.std.specs.Prelude.{if◌then◌else◌, ◌++◌, ◌∷◌, [], ◌≡◌, ◌≢◌, ◌≤◌, ◌&&◌, All, IfOk, OnOk, not, false, is_some, ◌||◌, Some, None};
 ghost use Rattle.std.specs.List.{find};
 ghost use Rattle.std.specs.Vec.{vec_capacity};
-ghost use Rattle.farm_base.specs.Contents.{empty_digest};
+ghost use Rattle.names.specs.Contents.{empty_digest};
 ghost use Rattle.protocol.specs.Farm.{farm_limits};
 ghost use Rattle.leases.specs.Table.{fit_of};
 ghost use Rattle.leases.specs.declared.lease_table.Fit.{Fit};
 ghost use Rattle.protocol.specs.Ledger.{begin_work, says, notes, parks, decision, decided, sees, lease_for, grant_of, gives, denies, tried, try_all, stays, waiting, retried, elsewhere, recall, recalls, holds_wanted, acquiring, lease_of, is_parked, confirms, committing, may_commit, may_release, lease_under, released, newer_life, answering, handled};
-ghost use Rattle.drafts.specs.Held.{ledger};
-ghost use Rattle.drafts.specs.Idle.{AreHeldUp, AreIdle};
-ghost use Rattle.drafts.specs.Keeps.{held, IsKeepable};
+ghost use Rattle.effects.specs.Held.{ledger};
+ghost use Rattle.effects.specs.Sound.{AreHeldUp};
+ghost use Rattle.drafts.specs.Idle.{AreIdle};
+ghost use Rattle.effects.specs.Keeps.{held, IsKeepable};
 ghost use Rattle.farm_base.specs.Wanted.{IsWants};
-ghost use Rattle.drafts.specs.Shown.{work, Makes, Finishes, IsFresh, table_after, ended, ended_committed};
+ghost use Rattle.effects.specs.Shown.{IsFresh, table_after};
+ghost use Rattle.drafts.specs.Shown.{work, Makes, Finishes, ended, ended_committed};
 ghost use Rattle.parked.specs.Over.{still_waiting};
 ghost use Rattle.parked.specs.Queue.{asks_of};
 ghost use Rattle.parked.specs.Waiting.{waits_after};
-ghost use Rattle.drafts.specs.Sound.{IsSound};
+ghost use Rattle.effects.specs.Sound.{IsSound};
 ghost use Rattle.versions.specs.Lines.{lines_with, room_needed};
 
-use super::effects::{Effects, Prepared};
-use super::new_life::NewLife;
-use super::state::{State, cleared, grant_of, is_home, is_some_saved};
+use super::granting::{give, grant_of, is_some_saved};
+use super::home::{cleared, is_home};
+use effects::{Effects, NewLife, Prepared, State};
 use events::{CoordNote, Decision};
 use farm_base::{
     Copied, FromCoord, Grant, Items, Life, News, NodeId, Parked, Request, Slot, Ticket, ToCoord,
@@ -119,7 +121,7 @@ impl<'s> Draft<'s> {
         ensures grant { IfOk result (λ grant. grant
             ≡ grant_of empty_digest (work self.old).ledger.line (lease_for farm_limits (work self.old).ledger p.now)) }
     {
-        let grant = self.effects.give(alloc, self.base, p)?;
+        let grant = give(alloc, &mut *self.effects, self.base, p)?;
         Ok(grant)
     }
 

@@ -7,18 +7,19 @@ ghost use Rattle.protocol.specs.Ledger.{Ledger, is_free, elsewhere, is_parked, d
 ghost use Rattle.leaseindex.specs.Endings.{ends_lease};
 ghost use Rattle.leases.specs.Table.{fit_of};
 ghost use Rattle.leases.specs.declared.lease_table.Fit.{Fit};
-ghost use Rattle.drafts.specs.Idle.{AreHeldUp, AreIdle};
-ghost use Rattle.drafts.specs.Keeps.{held};
-ghost use Rattle.drafts.specs.Shown.{work, table_after};
-ghost use Rattle.drafts.specs.Sound.{IsSound};
+ghost use Rattle.effects.specs.Sound.{AreHeldUp};
+ghost use Rattle.drafts.specs.Idle.{AreIdle};
+ghost use Rattle.effects.specs.Keeps.{held};
+ghost use Rattle.effects.specs.Shown.{table_after};
+ghost use Rattle.drafts.specs.Shown.{work};
+ghost use Rattle.effects.specs.Sound.{IsSound};
 ghost use Rattle.parked.specs.Over.{Begins, still_at};
 ghost use Rattle.parked.specs.Queue.{asks_of};
 ghost use Rattle.parked.specs.Spent.{IsNoted, is_noted, is_private_spent};
 ghost use Rattle.parked.specs.Waiting.{ends_ask};
 
-use super::change::keep_open;
 use super::draft::Draft;
-use super::state::fit_slots;
+use super::fitting::{fit_slots, keep_open};
 use events::Decision;
 use farm_base::{Copied, Life, News, NodeId, Parked, Slot, Ticket, Want, Why};
 use leases::{Ending, Fit, TableView};

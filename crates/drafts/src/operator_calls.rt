@@ -2,20 +2,23 @@
 ghost use Rattle.std.specs.Prelude.{◌≡◌, ◌∷◌, [], ◌&&◌, if◌then◌else◌, nat_lt, map, All, IfOk, OnOk, None};
 ghost use Rattle.std.specs.List.{list_any};
 ghost use Rattle.std.specs.Result.{result_err};
-ghost use Rattle.farm_base.specs.Contents.{empty_digest};
+ghost use Rattle.names.specs.Contents.{empty_digest};
 ghost use Rattle.protocol.specs.Farm.{farm_limits};
 ghost use Rattle.protocol.specs.Ledger.{begin_work, withdrawn, pruned, retired, retried, goes, holds_wanted, is_awaited, nudges, nudge_all};
 ghost use Rattle.versions.specs.Additions.{HasRoom};
 ghost use Rattle.versions.specs.Lines.{news_of};
-ghost use Rattle.drafts.specs.Held.{ledger};
-ghost use Rattle.drafts.specs.Keeps.{held, IsKeepable};
-ghost use Rattle.drafts.specs.Shown.{work, Makes, Accepts, IsFresh, having_said, withdraws_under};
-ghost use Rattle.drafts.specs.Idle.{AreHeldUp, AreIdle};
+ghost use Rattle.effects.specs.Held.{ledger};
+ghost use Rattle.effects.specs.Keeps.{held, IsKeepable};
+ghost use Rattle.effects.specs.Shown.{IsFresh};
+ghost use Rattle.drafts.specs.Shown.{work, Makes, Accepts, having_said, withdraws_under};
+ghost use Rattle.effects.specs.Sound.{AreHeldUp};
+ghost use Rattle.drafts.specs.Idle.{AreIdle};
 ghost use Rattle.parked.specs.Queue.{asks_of};
-ghost use Rattle.drafts.specs.Sound.{IsSound};
+ghost use Rattle.effects.specs.Sound.{IsSound};
 
 use super::draft::Draft;
-use super::state::{State, grant_of, is_some_saved};
+use super::granting::{grant_of, is_some_saved};
+use effects::State;
 use events::CoordNote;
 use farm_base::{Copied, FromCoord, Lease, News, NodeId, Parked, Slot, Ticket, empty_digest};
 use leases::{Ending, holds_wanted};
@@ -36,55 +39,53 @@ fn is_asked_for(parked: &[Parked], lease: &Lease) -> bool
     parked.iter().any(|p| asks_for(p, lease))
 }
 
-impl State {
-    /// Whether a ticket can still be given.
-    pub fn has_ticket(&self) -> bool
-        ensures { result ≡ nat_lt self.now.tickets.position farm_limits.greatest }
-    {
-        self.tickets.peek().is_ok()
-    }
+/// Whether a ticket can still be given.
+pub fn has_ticket(state: &State) -> bool
+    ensures { result ≡ nat_lt state.now.tickets.position farm_limits.greatest }
+{
+    state.tickets.peek().is_ok()
+}
 
-    /// Whether a parked ask is for the tenure that the lease is.
-    fn is_waited_for(&self, lease: &Lease) -> bool
-        ensures { result ≡ is_awaited (asks_of self.now.parked) lease.now }
-    {
-        lease.tenure && is_asked_for(self.parked.waiting(), lease)
-    }
+/// Whether a parked ask is for the tenure that the lease is.
+fn is_waited_for(state: &State, lease: &Lease) -> bool
+    ensures { result ≡ is_awaited (asks_of state.now.parked) lease.now }
+{
+    lease.tenure && is_asked_for(state.parked.waiting(), lease)
+}
 
-    /// Sends the Grant of a lease again, and asks for a tenure that is waited for.
-    fn remind(
-        &self,
-        alloc: Global,
-        sends: &mut Vec<FromCoord>,
-        lease: &Lease,
-    ) -> Result<(), AllocError>
-        ensures { OnOk result (having_said sends.new.items (ledger (held self.now))
-            ≡ nudges farm_limits lease.now (having_said sends.old.items (ledger (held self.now)))) }
-    {
-        let grant = grant_of(alloc, &self.lines, &None, lease)?;
-        sends.push(FromCoord::Granted(grant))?;
-        if self.is_waited_for(lease) {
-            sends.push(FromCoord::Recall {
-                node: lease.node,
-                life: lease.life,
-                ticket: lease.ticket,
-            })?;
-        }
-        Ok(())
+/// Sends the Grant of a lease again, and asks for a tenure that is waited for.
+fn remind(
+    alloc: Global,
+    state: &State,
+    sends: &mut Vec<FromCoord>,
+    lease: &Lease,
+) -> Result<(), AllocError>
+    ensures { OnOk result (having_said sends.new.items (ledger (held state.now))
+        ≡ nudges farm_limits lease.now (having_said sends.old.items (ledger (held state.now)))) }
+{
+    let grant = grant_of(alloc, &state.lines, &None, lease)?;
+    sends.push(FromCoord::Granted(grant))?;
+    if is_waited_for(state, lease) {
+        sends.push(FromCoord::Recall {
+            node: lease.node,
+            life: lease.life,
+            ticket: lease.ticket,
+        })?;
     }
+    Ok(())
+}
 
-    /// Reminds the holder of each lease of it, the oldest first.
-    pub fn remind_all(&self, alloc: Global) -> Result<Vec<FromCoord>, AllocError>
-        ensures { IfOk result (λ sends. having_said sends.items (ledger (held self.now))
-            ≡ nudge_all farm_limits self.now.table.live (begin_work (ledger (held self.now)))) }
-    {
-        let mut sends = Vec::new(alloc);
-        let leases = self.table.leases();
-        for lease in leases {
-            self.remind(alloc, &mut sends, lease)?;
-        }
-        Ok(sends)
+/// Reminds the holder of each lease of it, the oldest first.
+pub fn remind_all(alloc: Global, state: &State) -> Result<Vec<FromCoord>, AllocError>
+    ensures { IfOk result (λ sends. having_said sends.items (ledger (held state.now))
+        ≡ nudge_all farm_limits state.now.table.live (begin_work (ledger (held state.now)))) }
+{
+    let mut sends = Vec::new(alloc);
+    let leases = state.table.leases();
+    for lease in leases {
+        remind(alloc, state, &mut sends, lease)?;
     }
+    Ok(sends)
 }
 
 impl<'s> Draft<'s> {

@@ -1,6 +1,6 @@
 -- The picture of events of a farm.
 use Rattle.std.specs.Prelude.{◌≡◌, ℕ, ◌+◌, List, length, take}
-use Rattle.farm_base.specs.Contents.{content_digest}
+use Rattle.names.specs.Contents.{content_digest}
 use Rattle.protocol.specs.Farm.{farm_limits}
 use Rattle.protocol.specs.Replay.{Farm, run, opening}
 use Rattle.events.specs.declared.event.Event.{Event}

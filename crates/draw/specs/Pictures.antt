@@ -1,7 +1,7 @@
 -- From a schedule to its picture.
 use Rattle.std.specs.Prelude.{◌≡◌, ℕ, ◌+◌, ◌-◌, if◌then◌else◌, List, [], ◌∷◌, ◌++◌, length, map, take, codes, decimal, None, Result, slice_range}
 use Rattle.std.specs.List.{range_with_len}
-use Rattle.farm_base.specs.Contents.{content_digest}
+use Rattle.names.specs.Contents.{content_digest}
 use Rattle.farm_base.specs.declared.message.Message.{Message}
 use Rattle.protocol.specs.Farm.{farm_limits}
 use Rattle.protocol.specs.Lists.{nth}

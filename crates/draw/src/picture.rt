@@ -1,6 +1,6 @@
 //! The frames of a schedule.
 ghost use Rattle.std.specs.Prelude.{◌≡◌, ◌+◌, ◌<◌, ◌^◌, IfOk, OnOk, length};
-ghost use Rattle.farm_base.specs.Contents.{content_digest};
+ghost use Rattle.names.specs.Contents.{content_digest};
 ghost use Rattle.protocol.specs.Farm.{farm_limits};
 ghost use Rattle.protocol.specs.Replay.{run, step, opening};
 ghost use Rattle.world.specs.Setups.{IsSetup};

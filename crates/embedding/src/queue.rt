@@ -1,6 +1,6 @@
 //! One coordinator and two nodes over a queue.
 ghost use Rattle.std.specs.Prelude.{◌≡◌, IsTrue};
-ghost use Rattle.farm_base.specs.declared.limits.TheConstants.{NODES};
+ghost use Rattle.names.specs.declared.limits.TheConstants.{NODES};
 ghost use Rattle.protocol.specs.Lawful.{IsSaid, are_for_tenure};
 
 use coordinator::Coordinator;

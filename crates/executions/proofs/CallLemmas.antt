@@ -1,6 +1,6 @@
 -- What an executor keeps of its calls.
 use Rattle.std.proofs.Common.{inl, inr, List, Ok, Err}
-use Rattle.farm_base.specs.declared.digest.Key.{Key}
+use Rattle.names.specs.declared.digest.Key.{Key}
 use Rattle.executions.specs.declared.call.Call.{Call}
 use Rattle.executions.specs.declared.call.ExecOutcome.{ExecOutcome}
 use Rattle.executions.specs.declared.call.ExecOutcome.TheVariants.{Done, Failed, OutOfMemory}

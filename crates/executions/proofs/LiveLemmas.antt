@@ -10,9 +10,9 @@ use Rattle.std.proofs.lemmas.List.Edits.{length-remove, get_or-remove_below, get
 use Rattle.std.proofs.lemmas.List.Folds.{list_any_at}
 use Rattle.std.proofs.lemmas.Option.{slice_get_within, slice_get-get_or, get_or_from_slice_get}
 use Rattle.lists.proofs.Places.{some_is, get_front, get_push_cases, get_set_cases}
-use Rattle.farm_base.proofs.CompareLaws.{folder_eq-itself}
-use Rattle.farm_base.proofs.NameLaws.{folder_exact}
-use Rattle.farm_base.specs.Folders.{folder_eq}
+use Rattle.names.proofs.CompareLaws.{folder_eq-itself}
+use Rattle.names.proofs.NameLaws.{folder_exact}
+use Rattle.names.specs.Folders.{folder_eq}
 use Rattle.folders.specs.Edits.{edited_all}
 use Rattle.folders.specs.Files.{Files}
 use Rattle.slotfolders.specs.declared.batch.Batch.{Batch}

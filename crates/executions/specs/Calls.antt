@@ -1,7 +1,7 @@
 -- What an executor keeps of its calls (this project's own).
 use Rattle.std.specs.Prelude.{⊤, ◌≡◌, ◌⊎◌, ℤ, List, [], ◌∷◌, ◌++◌, Result, Ok, Err}
-use Rattle.farm_base.specs.declared.digest.Digest.{Digest}
-use Rattle.farm_base.specs.declared.digest.Key.{Key}
+use Rattle.names.specs.declared.digest.Digest.{Digest}
+use Rattle.names.specs.declared.digest.Key.{Key}
 use Rattle.executions.specs.declared.call.Call.{Call}
 use Rattle.executions.specs.declared.call.ExecOutcome.{ExecOutcome}
 use Rattle.executions.specs.declared.call.ExecOutcome.TheVariants.{Done, Failed, OutOfMemory}

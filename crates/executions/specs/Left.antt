@@ -1,6 +1,6 @@
 -- What an execution leaves in the slots of its lease (this project's own).
 use Rattle.std.specs.Prelude.{Bool, true, List, []}
-use Rattle.farm_base.specs.declared.folder.FolderName.{FolderName}
+use Rattle.names.specs.declared.folder.FolderName.{FolderName}
 use Rattle.farm_base.specs.declared.message.GrantedSlot.{GrantedSlot}
 use Rattle.farm_base.specs.declared.left.Left.{Left}
 use Rattle.farm_base.specs.declared.want.Want.{Want}

@@ -2,9 +2,9 @@
 use Rattle.std.specs.Prelude.{⊤, ◌≡◌, ℕ, ◌<◌, Bool, true, false, List, [], ◌∷◌, ◌++◌, length, drop, Option, Some, None, Result, Ok, Err, slice_get}
 use Rattle.std.specs.List.{fold, find, list_any, remove}
 use Rattle.std.specs.Option.{option_map}
-use Rattle.farm_base.specs.declared.folder.FolderName.{FolderName}
-use Rattle.farm_base.specs.declared.number.Ticket.{Ticket}
-use Rattle.farm_base.specs.Folders.{folder_eq}
+use Rattle.names.specs.declared.folder.FolderName.{FolderName}
+use Rattle.names.specs.declared.number.Ticket.{Ticket}
+use Rattle.names.specs.Folders.{folder_eq}
 use Rattle.farm_base.specs.Kinds.{is_tenure}
 use Rattle.protocol.specs.Names.{Shared}
 use Rattle.folders.specs.declared.edit.Edit.{Edit}

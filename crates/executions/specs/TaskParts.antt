@@ -1,7 +1,7 @@
 -- What a contract sees of a task (this project's own).
 use Rattle.std.specs.Prelude.{ℕ, List, Option}
-use Rattle.farm_base.specs.declared.digest.Digest.{Digest}
-use Rattle.farm_base.specs.declared.digest.Key.{Key}
+use Rattle.names.specs.declared.digest.Digest.{Digest}
+use Rattle.names.specs.declared.digest.Key.{Key}
 use Rattle.opsproto.specs.Scalars.{Text}
 use Rattle.opsproto.specs.declared.exec.ExecOp.{ExecOp}
 use Rattle.executions.specs.declared.task.View.{View}

@@ -1,7 +1,7 @@
 //! What the executor of a lease is given.
 ghost use Rattle.std.specs.Prelude.{◌≡◌, ◌<◌, List, length, IfOk, Contains};
 ghost use Rattle.std.specs.List.{AllZip};
-ghost use Rattle.farm_base.specs.declared.folder.Base.{Base};
+ghost use Rattle.names.specs.declared.folder.Base.{Base};
 ghost use Rattle.opsproto.specs.Mounts.{mounts_in};
 ghost use Rattle.cachemounts.specs.declared.viewing.CacheView.{CacheView as SpecView};
 ghost use Rattle.cachemounts.specs.CacheViews.{IsView};

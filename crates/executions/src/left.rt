@@ -1,6 +1,6 @@
 //! What an execution leaves in the slots of its lease.
 ghost use Rattle.std.specs.Prelude.{◌≡◌, true, false, IfOk, Err};
-ghost use Rattle.farm_base.specs.Slots.{SlotParts};
+ghost use Rattle.names.specs.Slots.{SlotParts};
 ghost use Rattle.slotfolders.specs.Seen.{folder_seen};
 ghost use Rattle.executions.specs.Calls.{IsAnswer};
 ghost use Rattle.executions.specs.Left.{is_fit, news_of};

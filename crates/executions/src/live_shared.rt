@@ -1,8 +1,8 @@
 //! The SHARED folders that a node has open.
 ghost use Rattle.std.specs.Prelude.{◌≡◌, ◌<◌, [], map, length, Some, None, Err, slice_get, set, vec_len, IfOk, IfErr, IfSome, IfNone, OnErr, OnOk, is_some};
 ghost use Rattle.std.specs.List.{find};
-ghost use Rattle.farm_base.specs.Slots.{SlotParts};
-ghost use Rattle.farm_base.specs.declared.folder.FolderName.{FolderName as Name};
+ghost use Rattle.names.specs.Slots.{SlotParts};
+ghost use Rattle.names.specs.declared.folder.FolderName.{FolderName as Name};
 ghost use Rattle.folders.specs.Edits.{edited_all};
 ghost use Rattle.folders.specs.Files.{folder_bytes, most_bytes};
 ghost use Rattle.executions.specs.declared.live_shared.Open.{Open as SpecOpen};

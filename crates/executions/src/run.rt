@@ -1,8 +1,8 @@
 //! One execution under a lease.
 ghost use Rattle.std.specs.Prelude.{◌≡◌, true, false, ◌<◌, length, map, slice_get, Some, Err, IfOk, OnErr, IsOk, Contains};
 ghost use Rattle.std.specs.List.{All};
-ghost use Rattle.farm_base.specs.Slots.{SlotParts};
-ghost use Rattle.farm_base.specs.declared.folder.Mode.TheVariants.{Shared};
+ghost use Rattle.names.specs.Slots.{SlotParts};
+ghost use Rattle.names.specs.declared.folder.Mode.TheVariants.{Shared};
 ghost use Rattle.vertices.specs.Edges.{list_at};
 ghost use Rattle.cachemounts.specs.CacheWants.{AreWants};
 ghost use Rattle.executions.specs.declared.call.ExecOutcome.{ExecOutcome as AnyOutcome};

@@ -1,7 +1,7 @@
 -- Versions of slots.
 use Rattle.std.specs.Prelude.{Bool, ◌&&◌, nat_eq}
 use Rattle.farm_base.specs.declared.message.Version.{Version}
-use Rattle.farm_base.specs.Slots.{slot_eq}
+use Rattle.names.specs.Slots.{slot_eq}
 
 -- the same slot and number
 abbrev pub version_eq : Version → Version → Bool

@@ -2,11 +2,8 @@
 ghost use Rattle.std.specs.Prelude.{◌≡◌};
 ghost use Rattle.farm_base.specs.Kinds.{is_tenure, kind_of};
 
-use super::copied::Copied;
-use super::items::Items;
-use super::number::{Ask, Life, NodeId, Ticket};
-use super::slot::Slot;
 use super::want::Wants;
+use names::{Ask, Copied, Items, Life, NodeId, Slot, Ticket};
 use std::alloc::{AllocError, Global};
 
 /// What a lease is given for.
@@ -69,12 +66,6 @@ pub struct Parked {
     pub ask: Ask,
     pub wants: Wants,
     pub tenure: bool,
-}
-
-impl Copied for (Slot, bool) {
-    fn copy(&self, alloc: Global) -> Result<Self, AllocError> {
-        Ok((self.0.copy(alloc)?, self.1))
-    }
 }
 
 impl Copied for Lease {

@@ -1,7 +1,5 @@
 //! What an execution leaves in a slot that it may write.
-use super::content::Content;
-use super::copied::Copied;
-use super::slot::Slot;
+use names::{Content, Copied, Slot};
 use std::alloc::{AllocError, Global};
 
 /// A slot, and the content that an execution left in it.

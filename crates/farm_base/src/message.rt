@@ -2,14 +2,9 @@
 ghost use Rattle.std.specs.Prelude.{◌≡◌};
 ghost use Rattle.farm_base.specs.Receivers.{told_to, told_life, receiver};
 
-use super::content::Content;
-use super::copied::Copied;
-use super::digest::Digest;
-use super::items::Items;
 use super::lease::LeaseKind;
-use super::number::{Ask, Life, NodeId, Ticket};
-use super::slot::Slot;
 use super::want::Wants;
+use names::{Ask, Content, Copied, Digest, Items, Life, NodeId, Slot, Ticket};
 use std::alloc::{AllocError, Global};
 
 /// A version of a slot. Version 0 of each slot is the empty folder.

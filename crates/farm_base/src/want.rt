@@ -1,12 +1,10 @@
-ghost use Rattle.std.specs.Prelude.{◌≡◌, ◌<◌, ◌≤◌, ◌↔◌, ◌≢◌, ◌∷◌, [], vec_len, length, IsPermutation, Err, IfOk, IsErrOf};
+ghost use Rattle.std.specs.Prelude.{◌≡◌, ◌<◌, ◌≤◌, ◌↔◌, ◌≢◌, ◌∷◌, [], vec_len, IsPermutation, Err, IfOk, IsErrOf};
 ghost use Rattle.std.specs.List.{IsDistinct, IsAllAdjacentAnswer};
 ghost use Rattle.std.specs.Ordering.{is_lt};
-ghost use Rattle.farm_base.specs.Folders.{folder_cmp, folder_eq};
+ghost use Rattle.names.specs.Folders.{folder_cmp, folder_eq};
 ghost use Rattle.farm_base.specs.Wanted.{folders, IsWants};
 
-use super::copied::Copied;
-use super::folder::FolderName;
-use super::items::Items;
+use names::{Copied, FolderName, Items};
 use std::alloc::{AllocError, Global};
 use std::marker::Model;
 use thiserror::Error;

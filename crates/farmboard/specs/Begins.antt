@@ -1,6 +1,6 @@
 -- How an execution begins, and how a lease is given back.
 use Rattle.std.specs.Prelude.{◌≡◌, ◌≢◌, ℕ, Bool, true, false, ◌&&◌, not, List, map, Some, Ok, Err, is_some}
-use Rattle.farm_base.specs.Contents.{content_digest}
+use Rattle.names.specs.Contents.{content_digest}
 use Rattle.protocol.specs.Lists.{nth}
 use Rattle.protocol.specs.Names.{NodeId, Life, Ticket, Want}
 use Rattle.protocol.specs.Machine.{Grant}

@@ -1,6 +1,6 @@
 //! The board.
 ghost use Rattle.std.specs.Prelude.{◌≡◌, ◌≤◌, ◌↔◌, [], true, IfOk, IfErr, IfSome, IfNone, is_some, length, ℕ};
-ghost use Rattle.farm_base.specs.declared.limits.TheConstants.{EVENTS};
+ghost use Rattle.names.specs.declared.limits.TheConstants.{EVENTS};
 ghost use Rattle.protocol.specs.Names.{tenure_wants};
 ghost use Rattle.protocol.specs.Replay.{is_node};
 ghost use Rattle.events.specs.declared.answer.EventNote.TheVariants as note;

@@ -2,7 +2,7 @@
 use Rattle.std.proofs.Common.{◌≡◌, ◌≢◌, List, [], ◌∷◌, subst}
 use Rattle.std.specs.List.{All, AllZip}
 use Rattle.std.proofs.lemmas.List.Elements.{All-cons, All-nil}
-use Rattle.farm_base.specs.declared.number.NodeId.{NodeId}
+use Rattle.names.specs.declared.number.NodeId.{NodeId}
 use Rattle.protocol.specs.Replay.{Farm}
 use Rattle.executions.specs.declared.call.Call.{Call}
 use Rattle.jobs.specs.declared.answer.Answer.{Answer}

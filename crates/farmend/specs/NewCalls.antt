@@ -1,7 +1,7 @@
 -- The new calls of executors, as they are looked for (this project's own).
 use Rattle.std.specs.Prelude.{⊤, ◌≡◌, List, [], ◌∷◌, ◌++◌}
 use Rattle.std.specs.Borrow.{Bor}
-use Rattle.farm_base.specs.declared.number.NodeId.{NodeId}
+use Rattle.names.specs.declared.number.NodeId.{NodeId}
 use Rattle.executions.specs.declared.call.Call.{Call}
 
 -- of each executor, in order, its node, the calls that it had, those at the end, and its node with its new calls

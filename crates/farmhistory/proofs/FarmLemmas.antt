@@ -1,6 +1,6 @@
 -- A history of one event more leads to the step of its farm.
 use Rattle.std.proofs.Common.{◌≡◌, List, [], ◌∷◌, ◌++◌, Result, refl, ap, sym, ◌∙◌}
-use Rattle.farm_base.specs.Contents.{content_digest}
+use Rattle.names.specs.Contents.{content_digest}
 use Rattle.protocol.specs.Farm.{farm_limits}
 use Rattle.protocol.specs.Replay.{Farm, Turn, opening, step, run}
 use Rattle.events.specs.declared.event.Event.{Event}

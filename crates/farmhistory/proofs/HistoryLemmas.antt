@@ -5,8 +5,8 @@ use Rattle.std.proofs.lemmas.Bool.{cases_eq}
 use Rattle.std.proofs.lemmas.Bool.Decides.{leb_tells, eqb_tells}
 use Rattle.std.proofs.lemmas.Grind.{common_steps}
 use Rattle.std.proofs.lemmas.List.Folds.{list_any-append}
-use Rattle.farm_base.specs.Contents.{content_digest}
-use Rattle.farm_base.specs.declared.limits.TheConstants.{EVENTS}
+use Rattle.names.specs.Contents.{content_digest}
+use Rattle.names.specs.declared.limits.TheConstants.{EVENTS}
 use Rattle.protocol.specs.Farm.{farm_limits}
 use Rattle.protocol.specs.Replay.{Farm, Turn, opening, step, run}
 use Rattle.events.specs.declared.event.Event.{Event}

@@ -1,7 +1,7 @@
 -- What a board keeps.
 use Rattle.std.specs.Prelude.{◌≡◌, ℕ, ◌≤◌, ◌==◌, ◌||◌, nat_le, Bool, true, List, length}
 use Rattle.std.specs.List.{list_any}
-use Rattle.farm_base.specs.declared.limits.TheConstants.{EVENTS}
+use Rattle.names.specs.declared.limits.TheConstants.{EVENTS}
 use Rattle.protocol.specs.Replay.{Farm}
 use Rattle.events.specs.declared.event.Event.{Event}
 use Rattle.world.specs.Setups.{IsSetup}

@@ -2,7 +2,7 @@
 -- own.
 use Rattle.std.specs.Prelude.{ℕ, ◌+◌, Bool, true, false, if◌then◌else◌, List, [], ◌∷◌, Result, Ok, Err, is_some}
 use Rattle.std.specs.List.{list_any}
-use Rattle.farm_base.specs.Contents.{content_digest}
+use Rattle.names.specs.Contents.{content_digest}
 use Rattle.protocol.specs.Farm.{farm_limits}
 use Rattle.protocol.specs.Ledger.{Lease}
 use Rattle.protocol.specs.Replay.{Farm, opening, step}

@@ -1,8 +1,8 @@
 -- What a board stores, the farm that it leads to, and what a call adds to it. The rules are this project's own.
 use Rattle.std.specs.Prelude.{⊤, ◌≡◌, ℕ, zero, suc, ◌<◌, ◌≤◌, Bool, true, false, ◌==◌, ◌&&◌, ◌||◌, not, length, filter, List, [], ◌∷◌, ◌++◌, Option, Some, None, Result, Ok, Err}
 use Rattle.std.specs.List.{list_any}
-use Rattle.farm_base.specs.Contents.{content_digest}
-use Rattle.farm_base.specs.declared.limits.TheConstants.{EVENTS}
+use Rattle.names.specs.Contents.{content_digest}
+use Rattle.names.specs.declared.limits.TheConstants.{EVENTS}
 use Rattle.protocol.specs.Farm.{farm_limits}
 use Rattle.protocol.specs.Names.{Ask}
 use Rattle.protocol.specs.Replay.{Farm, opening, step, run}

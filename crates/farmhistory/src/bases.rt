@@ -1,6 +1,6 @@
 //! The contents that executions begin from.
 ghost use Rattle.std.specs.Prelude.{◌≡◌, true, IfOk, map};
-ghost use Rattle.farm_base.specs.Contents.{content_digest};
+ghost use Rattle.names.specs.Contents.{content_digest};
 ghost use Rattle.protocol.specs.Nodes.{all_stored};
 ghost use Rattle.nodecore.specs.Shown.{shown};
 

@@ -1,7 +1,7 @@
 //! What is counted of a schedule.
 ghost use Rattle.std.specs.Prelude.{◌≡◌, IfOk};
 ghost use Rattle.std.specs.List.{list_any};
-ghost use Rattle.farm_base.specs.declared.limits.TheConstants.{EVENTS};
+ghost use Rattle.names.specs.declared.limits.TheConstants.{EVENTS};
 ghost use Rattle.world.specs.Shown.{shown};
 ghost use Rattle.farmhistory.specs.Boards.{AreFew};
 ghost use Rattle.farmhistory.specs.Counts.{one_if, tells_commit, is_on_line, leases_at, counted};

@@ -4,11 +4,11 @@ use Rattle.std.specs.Prelude.{decimal}
 use Rattle.std.specs.List.{All}
 use Rattle.std.proofs.lemmas.List.Elements.{All-nil, All-cons, All-append, All-map, All-weaker}
 use Rattle.hex.specs.Hex.{IsBytes}
-use Rattle.farm_base.specs.declared.digest.Digest.{Digest}
+use Rattle.names.specs.declared.digest.Digest.{Digest}
 use Rattle.farm_base.specs.declared.message.Confirmed.{Confirmed}
 use Rattle.farm_base.specs.declared.message.GrantedSlot.{GrantedSlot}
 use Rattle.farm_base.specs.declared.message.News.{News}
-use Rattle.farm_base.specs.Digests.{IsDigest}
+use Rattle.names.specs.Digests.{IsDigest}
 use Rattle.base64.specs.Rfc4648.{encode_one, encode_two, encode_group, encode_symbols, padding_len}
 use Rattle.base64.specs.Engines.{standard}
 use Rattle.words.specs.Words.{access_text, digits_text, slot_with}

@@ -16,10 +16,10 @@ use Rattle.farm_base.specs.declared.message.Request.TheVariants as request
 use Rattle.farm_base.specs.declared.message.ToNode.TheVariants as to_node
 use Rattle.farm_base.specs.declared.message.Why.{Why}
 use Rattle.farm_base.specs.declared.message.Why.TheVariants.{InstancesSpent, TicketsSpent}
-use Rattle.farm_base.specs.declared.number.Life.{Life}
-use Rattle.farm_base.specs.declared.number.NodeId.{NodeId}
-use Rattle.farm_base.specs.declared.number.Ticket.{Ticket}
-use Rattle.farm_base.specs.Names.{folder_text}
+use Rattle.names.specs.declared.number.Life.{Life}
+use Rattle.names.specs.declared.number.NodeId.{NodeId}
+use Rattle.names.specs.declared.number.Ticket.{Ticket}
+use Rattle.names.specs.Names.{folder_text}
 use Rattle.farmwire.specs.declared.verb.Verb.{Verb}
 use Rattle.farmwire.specs.declared.verb.Verb.TheVariants.{Hello, Acquire, Tenure, Commit, Release, Granted, Committed, Fenced, Denied, Recall, Fetch, Blob}
 use Rattle.farmwire.specs.Lawful.{IsNode, IsCounted, IsLife, IsTicket, IsNews, IsConfirmed, IsGranted, IsRequest, IsTold, IsLawful}

@@ -8,9 +8,9 @@ use Rattle.base64.specs.Engines.{standard}
 use Rattle.base64.specs.GeneralPurpose.{decode_of}
 use Rattle.base64.proofs.EngineFacts.{decode_of-encode_of}
 use Rattle.hex.specs.Hex.{IsBytes}
-use Rattle.farm_base.specs.declared.digest.Digest.{Digest}
-use Rattle.farm_base.specs.declared.folder.Mode.{Mode}
-use Rattle.farm_base.specs.declared.folder.Mode.TheVariants.{Shared, Private, Locked}
+use Rattle.names.specs.declared.digest.Digest.{Digest}
+use Rattle.names.specs.declared.folder.Mode.{Mode}
+use Rattle.names.specs.declared.folder.Mode.TheVariants.{Shared, Private, Locked}
 use Rattle.farm_base.specs.declared.lease.LeaseKind.{LeaseKind}
 use Rattle.farm_base.specs.declared.lease.LeaseKind.TheVariants as kind
 use Rattle.farm_base.specs.declared.message.Confirmed.{Confirmed}
@@ -18,14 +18,14 @@ use Rattle.farm_base.specs.declared.message.GrantedSlot.{GrantedSlot}
 use Rattle.farm_base.specs.declared.message.News.{News}
 use Rattle.farm_base.specs.declared.message.Why.{Why}
 use Rattle.farm_base.specs.declared.message.Why.TheVariants.{InstancesSpent, TicketsSpent}
-use Rattle.farm_base.specs.declared.number.Ask.{Ask}
-use Rattle.farm_base.specs.declared.number.Life.{Life}
-use Rattle.farm_base.specs.declared.number.NodeId.{NodeId}
-use Rattle.farm_base.specs.Decimals.{Lacks}
-use Rattle.farm_base.specs.Digests.{IsDigest}
-use Rattle.farm_base.specs.Names.{mode_text, slot_text}
-use Rattle.farm_base.specs.Slots.{SlotParts}
-use Rattle.farm_base.proofs.TextLemmas.{Lacks-append, Lacks-middle, Lacks-cons, split_same, encode-lacks}
+use Rattle.names.specs.declared.number.Ask.{Ask}
+use Rattle.names.specs.declared.number.Life.{Life}
+use Rattle.names.specs.declared.number.NodeId.{NodeId}
+use Rattle.names.specs.Decimals.{Lacks}
+use Rattle.names.specs.Digests.{IsDigest}
+use Rattle.names.specs.Names.{mode_text, slot_text}
+use Rattle.names.specs.Slots.{SlotParts}
+use Rattle.names.proofs.TextLemmas.{Lacks-append, Lacks-middle, Lacks-cons, split_same, encode-lacks}
 use Rattle.words.specs.Words.{digits_text, why_text}
 use Rattle.farmwire.specs.Lawful.{IsNode, IsCounted, IsLife, IsAsk, IsNews, IsConfirmed, IsGranted}
 use Rattle.farmwire.specs.Lines.{life_text, ask_text, bytes_text, version_text, news_text, confirmed_text, granted_text, kind_text}

@@ -7,12 +7,12 @@ use Rattle.farm_base.specs.declared.message.Message.{Message}
 use Rattle.farm_base.specs.declared.message.Message.TheVariants as to
 use Rattle.farm_base.specs.declared.message.Request.TheVariants as request
 use Rattle.farm_base.specs.declared.message.ToNode.TheVariants as to_node
-use Rattle.farm_base.specs.declared.number.Life.{Life}
-use Rattle.farm_base.specs.declared.number.NodeId.{NodeId}
-use Rattle.farm_base.specs.declared.number.Ticket.{Ticket}
+use Rattle.names.specs.declared.number.Life.{Life}
+use Rattle.names.specs.declared.number.NodeId.{NodeId}
+use Rattle.names.specs.declared.number.Ticket.{Ticket}
 use Rattle.farm_base.specs.declared.want.Want.{Want}
-use Rattle.farm_base.specs.declared.folder.FolderName.{FolderName}
-use Rattle.farm_base.proofs.NameLaws.{folder_text-injective}
+use Rattle.names.specs.declared.folder.FolderName.{FolderName}
+use Rattle.names.proofs.NameLaws.{folder_text-injective}
 use Rattle.farmwire.specs.declared.verb.Verb.{Verb}
 use Rattle.farmwire.specs.declared.verb.Verb.TheVariants.{Hello, Acquire, Tenure, Commit, Release, Granted, Committed, Fenced, Denied, Recall, Fetch, Blob}
 use Rattle.words.specs.Words.{IsWant, want_text}

@@ -9,7 +9,7 @@ use Rattle.std.proofs.lemmas.Map.Keys.{Less-from_sorted}
 use Rattle.farm_base.specs.declared.want.Want.{Want}
 use Rattle.farm_base.specs.declared.want.WantsRefusal.{WantsRefusal}
 use Rattle.farm_base.specs.declared.want.WantsRefusal.TheVariants.{TooManyWants, SameFolderTwice, OutOfMemory}
-use Rattle.farm_base.specs.Folders.{folder_cmp, folder_eq}
+use Rattle.names.specs.Folders.{folder_cmp, folder_eq}
 use Rattle.farm_base.specs.Wanted.{folders}
 use Rattle.farm_base.proofs.WantLemmas.{distinct-from_sorted, not_less, IsRising}
 use Rattle.words.specs.declared.refusal.ReadRefusal.TheVariants.{BadForm}

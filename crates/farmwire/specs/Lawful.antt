@@ -2,9 +2,9 @@
 -- (`Coordinator::handle` asks for the ranges of `IsSaid`).
 use Rattle.std.specs.Prelude.{◌≡◌, ℕ, ◌≤◌, ◌<◌, ◌^◌, Bool, true, false, List, [], ◌∷◌}
 use Rattle.std.specs.List.{All}
-use Rattle.farm_base.specs.declared.folder.FolderName.{FolderName}
-use Rattle.farm_base.specs.declared.folder.Mode.TheVariants.{Shared}
-use Rattle.farm_base.specs.declared.limits.TheConstants.{NODES}
+use Rattle.names.specs.declared.folder.FolderName.{FolderName}
+use Rattle.names.specs.declared.folder.Mode.TheVariants.{Shared}
+use Rattle.names.specs.declared.limits.TheConstants.{NODES}
 use Rattle.farm_base.specs.declared.message.Confirmed.{Confirmed}
 use Rattle.farm_base.specs.declared.message.Fetch.{Fetch}
 use Rattle.farm_base.specs.declared.message.FromCoord.{FromCoord}
@@ -18,13 +18,13 @@ use Rattle.farm_base.specs.declared.message.Request.{Request}
 use Rattle.farm_base.specs.declared.message.Request.TheVariants.{Hello, Acquire, Commit, Release}
 use Rattle.farm_base.specs.declared.message.ToCoord.{ToCoord}
 use Rattle.farm_base.specs.declared.message.ToNode.TheVariants as to_node
-use Rattle.farm_base.specs.declared.number.Ask.{Ask}
-use Rattle.farm_base.specs.declared.number.Life.{Life}
-use Rattle.farm_base.specs.declared.number.NodeId.{NodeId}
-use Rattle.farm_base.specs.declared.number.Ticket.{Ticket}
+use Rattle.names.specs.declared.number.Ask.{Ask}
+use Rattle.names.specs.declared.number.Life.{Life}
+use Rattle.names.specs.declared.number.NodeId.{NodeId}
+use Rattle.names.specs.declared.number.Ticket.{Ticket}
 use Rattle.farm_base.specs.declared.want.Want.{Want}
-use Rattle.farm_base.specs.Digests.{IsBytes, IsDigest}
-use Rattle.farm_base.specs.Names.{IsName, IsSlot}
+use Rattle.names.specs.Digests.{IsBytes, IsDigest}
+use Rattle.names.specs.Names.{IsName, IsSlot}
 use Rattle.words.specs.Words.{AreWants}
 
 -- ---- numbers

@@ -3,7 +3,7 @@ use Rattle.std.specs.Prelude.{ℕ, Bool, true, false, List, [], ◌∷◌, ◌++
 use Rattle.std.specs.List.{join_with_byte}
 use Rattle.base64.specs.GeneralPurpose.{encode_of}
 use Rattle.base64.specs.Engines.{standard}
-use Rattle.farm_base.specs.declared.digest.Digest.{Digest}
+use Rattle.names.specs.declared.digest.Digest.{Digest}
 use Rattle.farm_base.specs.declared.lease.LeaseKind.{LeaseKind}
 use Rattle.farm_base.specs.declared.lease.LeaseKind.TheVariants as kind
 use Rattle.farm_base.specs.declared.message.Confirmed.{Confirmed}
@@ -17,11 +17,11 @@ use Rattle.farm_base.specs.declared.message.News.{News}
 use Rattle.farm_base.specs.declared.message.Request.{Request}
 use Rattle.farm_base.specs.declared.message.Request.TheVariants.{Hello, Acquire, Commit, Release}
 use Rattle.farm_base.specs.declared.message.ToNode.TheVariants as to_node
-use Rattle.farm_base.specs.declared.number.Ask.{Ask}
-use Rattle.farm_base.specs.declared.number.Life.{Life}
-use Rattle.farm_base.specs.declared.number.NodeId.{NodeId}
+use Rattle.names.specs.declared.number.Ask.{Ask}
+use Rattle.names.specs.declared.number.Life.{Life}
+use Rattle.names.specs.declared.number.NodeId.{NodeId}
 use Rattle.farm_base.specs.declared.want.Want.{Want}
-use Rattle.farm_base.specs.Names.{folder_text}
+use Rattle.names.specs.Names.{folder_text}
 use Rattle.words.specs.Words.{node_text, ticket_text, digits_text, why_text, slot_with, access_text, want_text}
 
 -- ---- words

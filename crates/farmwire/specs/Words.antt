@@ -1,9 +1,9 @@
 -- What the words of a text say: a verb, and after it what the verb takes.
 use Rattle.std.specs.Prelude.{◌≡◌, ℕ, Bool, false, true, List, [], ◌∷◌, ◌++◌, map, codes}
 use Rattle.std.specs.List.{All}
-use Rattle.farm_base.specs.declared.digest.Digest.{Digest}
-use Rattle.farm_base.specs.declared.folder.FolderName.{FolderName}
-use Rattle.farm_base.specs.declared.folder.Mode.TheVariants.{Shared}
+use Rattle.names.specs.declared.digest.Digest.{Digest}
+use Rattle.names.specs.declared.folder.FolderName.{FolderName}
+use Rattle.names.specs.declared.folder.Mode.TheVariants.{Shared}
 use Rattle.farm_base.specs.declared.lease.LeaseKind.{LeaseKind}
 use Rattle.farm_base.specs.declared.message.Confirmed.{Confirmed}
 use Rattle.farm_base.specs.declared.message.FromCoord.{FromCoord}
@@ -16,13 +16,13 @@ use Rattle.farm_base.specs.declared.message.Request.{Request}
 use Rattle.farm_base.specs.declared.message.Request.TheVariants as request
 use Rattle.farm_base.specs.declared.message.ToNode.TheVariants as to_node
 use Rattle.farm_base.specs.declared.message.Why.{Why}
-use Rattle.farm_base.specs.declared.number.Ask.{Ask}
-use Rattle.farm_base.specs.declared.number.Life.{Life}
-use Rattle.farm_base.specs.declared.number.NodeId.{NodeId}
-use Rattle.farm_base.specs.declared.number.Ticket.{Ticket}
+use Rattle.names.specs.declared.number.Ask.{Ask}
+use Rattle.names.specs.declared.number.Life.{Life}
+use Rattle.names.specs.declared.number.NodeId.{NodeId}
+use Rattle.names.specs.declared.number.Ticket.{Ticket}
 use Rattle.farm_base.specs.declared.want.Want.{Want}
-use Rattle.farm_base.specs.Digests.{IsBytes, IsDigest}
-use Rattle.farm_base.specs.Names.{folder_text, IsName}
+use Rattle.names.specs.Digests.{IsBytes, IsDigest}
+use Rattle.names.specs.Names.{folder_text, IsName}
 use Rattle.farmwire.specs.declared.verb.Verb.{Verb}
 use Rattle.farmwire.specs.declared.verb.Verb.TheVariants.{Hello, Acquire, Tenure, Commit, Release, Granted, Committed, Fenced, Denied, Recall, Fetch, Blob}
 use Rattle.words.specs.Words.{AreWants, node_text, ticket_text, digits_text, want_text, why_text}

@@ -2,12 +2,12 @@
 ghost use Rattle.std.specs.Prelude.{◌≡◌, ◌≢◌, ℕ, ◌<◌, ◌^◌, List, ◌++◌, map, IfOk, OnOk, IfSome, IfNone};
 ghost use Rattle.std.specs.List.{All};
 ghost use Rattle.std.specs.String.{string_bytes};
-ghost use Rattle.farm_base.specs.declared.digest.Digest.{Digest};
+ghost use Rattle.names.specs.declared.digest.Digest.{Digest};
 ghost use Rattle.farm_base.specs.declared.message.Confirmed.{Confirmed};
 ghost use Rattle.farm_base.specs.declared.message.GrantedSlot.{GrantedSlot};
 ghost use Rattle.farm_base.specs.declared.message.News.{News};
 ghost use Rattle.farm_base.specs.declared.want.Want.{Want};
-ghost use Rattle.farm_base.specs.Digests.{IsDigest};
+ghost use Rattle.names.specs.Digests.{IsDigest};
 ghost use Rattle.words.specs.Words.{IsWant, want_text, texts};
 ghost use Rattle.farmwire.specs.Lawful.{IsNews, IsConfirmed, IsGranted};
 ghost use Rattle.farmwire.specs.Lines.{news_text, confirmed_text, granted_text, version_text};

@@ -1,5 +1,5 @@
 //! Which messages have a line.
-ghost use Rattle.std.specs.Prelude.{◌≡◌, ℕ, ◌↔◌, IsTrue};
+ghost use Rattle.std.specs.Prelude.{◌↔◌, IsTrue};
 ghost use Rattle.farmwire.specs.Lawful.{IsNode, IsCounted, IsTenure, IsRequest, IsSaid, IsGrant, IsTold, IsFetch, IsLawful};
 
 use super::item::are_lawful;

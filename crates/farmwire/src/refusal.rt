@@ -1,6 +1,5 @@
 ghost use Rattle.std.specs.Prelude.{◌≡◌};
 ghost use Rattle.farmwire.specs.Refusals.{fault_of};
-ghost use Rattle.farmwire.specs.declared.refusal.LineFault.TheVariants as line;
 ghost use Rattle.farmwire.specs.declared.refusal.SealRefusal.TheVariants as seal;
 ghost use Rattle.farmwire.specs.declared.refusal.WriteRefusal.TheVariants as write;
 

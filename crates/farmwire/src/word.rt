@@ -1,12 +1,12 @@
 //! The words of a text, for the grammars of the layers above too.
-ghost use Rattle.std.specs.Prelude.{◌≡◌, ◌≢◌, ℕ, ◌<◌, Bool, List, IfOk, IfSome, IfNone};
+ghost use Rattle.std.specs.Prelude.{◌≡◌, ◌≢◌, ℕ, ◌<◌, List, IfOk, IfSome, IfNone};
 ghost use Rattle.farm_base.specs.declared.lease.LeaseKind.{LeaseKind};
 ghost use Rattle.farm_base.specs.declared.message.Why.{Why};
-ghost use Rattle.farm_base.specs.declared.number.Ask.{Ask};
-ghost use Rattle.farm_base.specs.declared.number.Life.{Life};
-ghost use Rattle.farm_base.specs.declared.number.NodeId.{NodeId};
-ghost use Rattle.farm_base.specs.declared.number.Ticket.{Ticket};
-ghost use Rattle.farm_base.specs.Digests.{IsBytes};
+ghost use Rattle.names.specs.declared.number.Ask.{Ask};
+ghost use Rattle.names.specs.declared.number.Life.{Life};
+ghost use Rattle.names.specs.declared.number.NodeId.{NodeId};
+ghost use Rattle.names.specs.declared.number.Ticket.{Ticket};
+ghost use Rattle.names.specs.Digests.{IsBytes};
 ghost use Rattle.std.specs.Prelude.{decimal};
 ghost use Rattle.farmwire.specs.Lawful.{IsNode, IsCounted, IsLife, IsAsk, IsTicket};
 ghost use Rattle.words.specs.Words.{node_text, ticket_text, why_text};

@@ -9,7 +9,9 @@ use Rattle.std.proofs.lemmas.Nat.{from_be_bytes-to_be_bytes_8}
 use Rattle.std.proofs.Math.Seq.{take-append_seam, drop-append_seam}
 use Rattle.sha2.specs.Sha256.{sha256}
 use Rattle.sha2.proofs.Facts256.{length-sha256}
-use Rattle.filekeeper.specs.Framing.{name_of, check_of, framed, log_bytes, HasHead, HasNone, IsTold, HasEntries, AreTaken}
+use Rattle.filekeeper.specs.declared.framing.LogFault.{LogFault}
+use Rattle.filekeeper.specs.declared.framing.LogFault.TheVariants.{BadHead, OutOfMemory}
+use Rattle.filekeeper.specs.Framing.{name_of, check_of, framed, log_bytes, HasHead, HasNone, IsTold, IsFault, HasEntries, AreTaken, TellNone}
 use Rattle.recordparts.specs.Spelling.{number64}
 use Rattle.saverecord.specs.Texts.{Texts, with_text, with_texts}
 
@@ -173,39 +175,48 @@ one_list whole bytes (e ∷ es) others behind rest h k =
 
 -- ---- while a file is read
 
--- of these bytes entries were taken, and these are left
-pub record SoFar (old : Texts) (bytes rest : List ℕ) (now : Texts) : Type 0 where
+-- of these bytes so many entries were taken, and these are left
+pub record SoFar (old : Texts) (bytes rest : List ℕ) (now : Texts) (count : ℕ) : Type 0 where
   pub entries : List (List ℕ)
+  pub counted : length entries ≡ count
   pub told : All IsTold entries
   pub bytes_are : bytes ≡ log_bytes old.whole entries ++ rest
   pub now_is : now ≡ with_texts entries old
 
-pub at_first : (old : Texts) (bytes : List ℕ) → SoFar old bytes bytes old
-at_first old bytes = record { entries = []; told = All-nil IsTold; bytes_are = refl; now_is = λ i. record old { entries = sym (append-nil old.entries) i } }
+pub at_first : (old : Texts) (bytes : List ℕ) → SoFar old bytes bytes old 0
+at_first old bytes = record { entries = []; counted = refl; told = All-nil IsTold; bytes_are = refl; now_is = λ i. record old { entries = sym (append-nil old.entries) i } }
 
 pub log-push : (whole : List ℕ) (entries : List (List ℕ)) (entry : List ℕ) → log_bytes whole (entries ++ entry ∷ []) ≡ log_bytes whole entries ++ framed whole entry
 log-push whole [] entry = append-nil (framed whole entry)
 log-push whole (e ∷ es) entry = ap (λ zs. framed whole e ++ zs) (log-push whole es entry) ∙ sym (append_assoc (framed whole e) (log_bytes whole es) (framed whole entry))
 
-pub one_more : (old now new : Texts) (bytes rest after entry : List ℕ) → SoFar old bytes rest now → rest ≡ framed now.whole entry ++ after → IsTold entry → new ≡ with_text entry now → SoFar old bytes after new
-one_more old now new bytes rest after entry h is told same =
+pub one_more : (old now new : Texts) (bytes rest after entry : List ℕ) (count : ℕ) → SoFar old bytes rest now count → rest ≡ framed now.whole entry ++ after → IsTold entry → new ≡ with_text entry now
+    → SoFar old bytes after new (count + 1)
+one_more old now new bytes rest after entry count h is told same =
     let whole : now.whole ≡ old.whole = ap (λ (t : Texts). t.whole) h.now_is in
     record {
       entries = h.entries ++ entry ∷ [];
+      counted = (let longer = length-append h.entries (entry ∷ []) in let counted = h.counted in omega arith);
       told = All-push IsTold h.entries entry h.told told;
       bytes_are = h.bytes_are ∙ ap (λ zs. log_bytes old.whole h.entries ++ zs) (is ∙ ap (λ w. framed w entry ++ after) whole)
           ∙ sym (append_assoc (log_bytes old.whole h.entries) (framed old.whole entry) after) ∙ ap (λ zs. zs ++ after) (sym (log-push old.whole h.entries entry));
       now_is = same ∙ ap (λ (t : Texts). with_text entry t) h.now_is ∙ (λ i. record old { entries = append_assoc old.entries h.entries (entry ∷ []) i });
     }
 
-pub all_taken : (old now : Texts) (bytes rest : List ℕ) (left : ℕ) → SoFar old bytes rest now → HasNone now.whole rest → left ≡ length rest → AreTaken old bytes now left
-all_taken old now bytes rest left h none l = record {
+pub all_taken : (old now : Texts) (bytes rest : List ℕ) (left count : ℕ) → SoFar old bytes rest now count → HasNone now.whole rest → left ≡ length rest → AreTaken old bytes now left
+all_taken old now bytes rest left count h none l = record {
   entries = h.entries;
   behind = rest;
   has = record { told = h.told; bytes_are = h.bytes_are; ends = subst (λ w. HasNone w rest) (ap (λ (t : Texts). t.whole) h.now_is) none };
   new_is = h.now_is;
   left_is = l;
 }
+
+-- where the head of the next one is damaged
+pub faulty : (old now : Texts) (bytes rest : List ℕ) (count number : ℕ) (fault : LogFault) → SoFar old bytes rest now count → IsFault rest number fault → number ≡ count + 1 → TellNone old.whole bytes fault
+faulty old now bytes rest count number (BadHead damaged) h (broken, is) next =
+    (h.entries, record { behind = rest; told = h.told; bytes_are = h.bytes_are; damaged = broken }, is ∙ next ∙ ap (λ n. n + 1) (sym h.counted))
+faulty old now bytes rest count number OutOfMemory h broken next = tt
 
 pub shorter : (whole entry rest after : List ℕ) (n most : ℕ) → rest ≡ framed whole entry ++ after → length rest + n ≤ most → length after + (n + 1) ≤ most
 shorter whole entry rest after n most is h =

@@ -1,5 +1,5 @@
 -- How entries lie in the file of a log (this project's own; docs/FORMATS.md, "The log").
-use Rattle.std.specs.Prelude.{◌≡◌, ◌≢◌, ◌⊎◌, ℕ, ◌<◌, ◌-◌, ◌^◌, nat_le, if◌then◌else◌, List, [], ◌∷◌, ◌++◌, length, take, drop, All, Option, Some, None, ⊤}
+use Rattle.std.specs.Prelude.{◌≡◌, ◌≢◌, ◌⊎◌, ℕ, ◌<◌, ◌+◌, ◌-◌, ◌^◌, nat_le, if◌then◌else◌, List, [], ◌∷◌, ◌++◌, length, take, drop, All, Option, Some, None, ⊤}
 use denote.Ref.{Bor}
 use Rattle.std.specs.Int.{w64, from_be_bytes}
 use Rattle.std.specs.List.{flat_map}
@@ -83,6 +83,22 @@ pub record AreTaken (old : Texts) (bytes : List ℕ) (new : Texts) (left : ℕ) 
   pub has : HasEntries old.whole bytes entries behind
   pub new_is : new ≡ with_texts entries old
   pub left_is : left ≡ length behind
+
+-- these bytes are a record's entries, and behind them stands a head that is damaged
+pub record BreaksBehind (whole bytes : List ℕ) (entries : List (List ℕ)) : Type 0 where
+  pub behind : List ℕ
+  pub told : All IsTold entries
+  pub bytes_are : bytes ≡ log_bytes whole entries ++ behind
+  pub damaged : IsDamaged behind
+
+-- the head of this entry, from 1, is damaged, and those before it are a record's
+abbrev pub HasDamagedHead : List ℕ → List ℕ → ℕ → Type 0
+HasDamagedHead whole bytes place = (entries : List (List ℕ)) × BreaksBehind whole bytes entries × (place ≡ length entries + 1)
+
+-- why these bytes tell no entries of a record
+abbrev pub TellNone : List ℕ → List ℕ → LogFault → Type 0
+TellNone whole bytes (BadHead place) = HasDamagedHead whole bytes place
+TellNone whole bytes OutOfMemory = ⊤
 
 -- the texts of a record's file and of its log's
 pub record AreTextsOf (whole bytes : List ℕ) (texts : Texts) : Type 0 where

@@ -1,7 +1,7 @@
 //! How entries lie in the file of a log.
 ghost use Rattle.std.specs.Prelude.{◌≡◌, [], Ok, None, IfOk, IfErr, IfSome, Decides};
 ghost use Rattle.filekeeper.specs.declared.framing.LogFault.TheVariants as faults;
-ghost use Rattle.filekeeper.specs.Framing.{name_of, check_of, head_of, HasNone, IsEntry, IsFault, IsTold, AreTaken, AreTextsOf};
+ghost use Rattle.filekeeper.specs.Framing.{name_of, check_of, head_of, HasNone, IsEntry, IsFault, IsTold, AreTaken, AreTextsOf, TellNone};
 ghost use Rattle.saverecord.specs.Texts.{whole_alone};
 
 use saverecord::Log;
@@ -107,6 +107,7 @@ fn first_entry<'b>(whole: &[u8], bytes: &'b [u8], number: usize) -> Result<Taken
 pub(crate) fn take_entries(alloc: Global, log: &mut Log, bytes: &[u8]) -> Result<usize, LogFault>
     ensures taken { IfOk result (AreTaken log.old bytes.now log.new) }
     ensures none { bytes.now ≡ [] → IfOk result (λ left. log.new ≡ log.old) }
+    ensures fault { IfErr result (TellNone log.old.whole bytes.now) }
 {
     let mut rest = bytes;
     for number in 0..bytes.len() {
@@ -126,6 +127,7 @@ pub fn texts_in(alloc: Global, whole: Vec<u8>, tail: &[u8]) -> Result<Log, LogFa
     ensures texts { IfOk result (AreTextsOf whole.items tail.now) }
     ensures whole { IfOk result (λ log. log.whole ≡ whole.items) }
     ensures none { tail.now ≡ [] → IfOk result (λ log. log ≡ whole_alone whole.items) }
+    ensures fault { IfErr result (TellNone whole.items tail.now) }
 {
     let mut log = Log::of(alloc, whole);
     let _left = take_entries(alloc, &mut log, tail)?;

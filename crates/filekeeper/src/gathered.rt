@@ -1,9 +1,6 @@
 //! A keeper whose entries are gathered.
-ghost use Rattle.std.specs.Prelude.{◌≡◌, ◌≢◌, ◌≤◌, ◌⊎◌, Err, IfOk, OnOk, OnErr};
-ghost use Rattle.std.specs.Result.{is_ok, result_err};
+ghost use Rattle.std.specs.Prelude.{◌≡◌, Err};
 ghost use Rattle.filekeeper.specs.Keepers.{GatherSaves};
-ghost use Rattle.saverecord.specs.Keepers.{HasFailed};
-ghost use Rattle.saverecord.specs.Texts.{whole_alone, with_text};
 
 use saverecord::{Keeper, KeeperRefusal, Log, SaveFault};
 use std::alloc::{AllocError, Global};

@@ -1,5 +1,5 @@
 //! The texts of a record in its files, over a device that may lose what it wasn't told to sync.
-ghost use Rattle.std.specs.Prelude.{◌≡◌, ◌≢◌, ◌<◌, ◌≤◌, ◌⊎◌, ◌++◌, ◌∷◌, ◌+◌, [], ℕ, List, true, false, length, take, drop, IfOk, IfSome, OnOk, OnErr, IsErr, Decides, All};
+ghost use Rattle.std.specs.Prelude.{◌≡◌, ◌≢◌, ◌<◌, ◌≤◌, ◌⊎◌, ◌++◌, ◌∷◌, ◌+◌, [], ℕ, List, true, false, length, take, IfOk, IfSome, OnOk, OnErr, IsErr, Decides, All};
 ghost use Rattle.filekeeper.specs.Disks.{calls_of, Files, IsTidied, Leaves, MaySee};
 ghost use Rattle.filekeeper.specs.Framing.{framed, log_bytes, AreTextsOf, IsTold};
 ghost use Rattle.filekeeper.specs.Settled.{Clashes, HoldsOneOf, HoldsSome, HasRead, IsAddedTo, IsCut, IsSettled, IsTakenUp, StandsIn};
@@ -9,7 +9,7 @@ ghost use Rattle.filekeeper.specs.declared.device_call.DeviceCall.TheVariants.{W
 use super::device::Device;
 use super::disk::Disk;
 use super::framing::{LogFault, are_same, head_of, name_of, take_entries};
-use farm_base::Items;
+use names::Items;
 use saverecord::Log;
 use std::alloc::{AllocError, Global};
 use std::io::{self, ErrorKind};

@@ -12,7 +12,7 @@ use Rattle.codec.specs.Steps.{◌>>=◌}
 use Rattle.folders.specs.Reading.{file_at, files_in, folder_of, last_path, Faulted}
 use Rattle.codec.proofs.Fronts.{parts_then}
 use Rattle.codec.proofs.Steps.{bind_err, chosen, err_is, ok_is}
-use Rattle.farm_base.specs.Digests.{IsBytes}
+use Rattle.names.specs.Digests.{IsBytes}
 use Rattle.folders.proofs.FileLaws.{file_takes}
 use Rattle.folders.proofs.FolderLaws.{length-file_bytes, folder_again}
 use Rattle.folders.proofs.Rising.{RiseFrom, sorted_from_rise}

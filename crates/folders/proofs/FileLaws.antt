@@ -9,7 +9,7 @@ use Rattle.std.proofs.lemmas.Str.{IsUtf8-from_is_utf8, is_utf8-from_IsUtf8}
 use Rattle.codec.specs.Steps.{◌>>=◌, front_or}
 use Rattle.codec.proofs.Fronts.{Takes, Takes-then, front_took, front_takes, front_again, front_of_length, wide32}
 use Rattle.codec.proofs.Steps.{bind_ok, passed_ok, ok_is}
-use Rattle.farm_base.specs.Digests.{IsBytes}
+use Rattle.names.specs.Digests.{IsBytes}
 use Rattle.folders.specs.declared.refusal.FolderRefusal.{FolderRefusal}
 use Rattle.folders.specs.declared.refusal.FolderRefusal.TheVariants.{Truncated, PathOrder, NotUtf8}
 use Rattle.folders.specs.Files.{sized, file_bytes}

@@ -13,7 +13,7 @@ use Rattle.folders.specs.Files.{Files, sized, file_bytes, folder_bytes, most_byt
 use Rattle.codec.specs.Steps.{◌>>=◌}
 use Rattle.folders.specs.Reading.{Gives, file_at, files_in, folder_of}
 use Rattle.codec.proofs.Steps.{bind_ok, guard_ok, ok_is}
-use Rattle.farm_base.specs.Digests.{IsBytes}
+use Rattle.names.specs.Digests.{IsBytes}
 use Rattle.folders.proofs.FileLaws.{file_takes, file_again}
 use Rattle.folders.proofs.Rising.{RiseFrom, sorted_from_rise, rise_from_sorted}
 

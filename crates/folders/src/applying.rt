@@ -1,11 +1,11 @@
 //! Editing the files of a folder.
-ghost use Rattle.std.specs.Prelude.{◌≡◌, ◌+◌, ◌<◌, ◌≤◌, length, IfOk, OnOk, IfSome, IfNone, Err};
+ghost use Rattle.std.specs.Prelude.{◌≡◌, ◌+◌, ◌<◌, ◌≤◌, length, IfOk, OnOk, IfSome, IfNone};
 ghost use Rattle.std.specs.List.{AllByRecursion};
 ghost use Rattle.std.specs.List.Sorted.{IsStrictlySortedBy};
 ghost use Rattle.std.specs.Map.{keys_of};
 ghost use Rattle.std.specs.Str.{IsUtf8};
 ghost use Rattle.folders.specs.Edits.{edited, edited_all, lent};
-ghost use Rattle.folders.specs.Files.{path_cmp, file_bytes, folder_bytes, most_bytes, IsFolder};
+ghost use Rattle.folders.specs.Files.{path_cmp, file_bytes, folder_bytes, most_bytes};
 
 use super::edit::Edit;
 use super::file::File;

@@ -1,6 +1,4 @@
-ghost use Rattle.std.specs.Prelude.{◌≡◌, IfOk};
-
-use farm_base::{Copied, Items, Text};
+use names::{Copied, Items, Text};
 use std::alloc::{AllocError, Global};
 
 /// A change of one file of a folder.

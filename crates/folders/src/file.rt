@@ -1,7 +1,7 @@
 ghost use Rattle.std.specs.Prelude.{◌≡◌, IfOk};
 ghost use Rattle.std.specs.Str.{IsUtf8};
 
-use farm_base::{Items, Text};
+use names::{Items, Text};
 use std::alloc::{AllocError, Global};
 
 /// A path and its content.

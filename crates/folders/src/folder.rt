@@ -1,4 +1,4 @@
-ghost use Rattle.std.specs.Prelude.{◌≡◌, ◌<◌, [], ℕ, List, length, Ok, Err, IfOk, OnOk, OnErr};
+ghost use Rattle.std.specs.Prelude.{◌≡◌, ◌<◌, [], length, Ok, Err, IfOk, OnOk, OnErr};
 ghost use Rattle.std.specs.Option.{option_copied};
 ghost use Rattle.folders.specs.Files.{Files, path_cmp, content_at, folder_bytes, most_bytes, IsFolder};
 ghost use Rattle.folders.specs.Edits.{edited_all};
@@ -10,7 +10,7 @@ use super::file::{File, copy_files};
 use super::reading::read_files;
 use super::refusal::{EditRefusal, FolderRefusal};
 use super::writing::push_files;
-use farm_base::Copied;
+use names::Copied;
 use std::alloc::{AllocError, Global};
 use std::cmp::Ordering;
 use std::marker::Model;

@@ -3,7 +3,7 @@ ghost use Rattle.std.specs.Prelude.{◌≡◌, ℕ, List, Some, None, if◌then�
 ghost use Rattle.std.specs.List.Sorted.{IsStrictlySortedBy};
 ghost use Rattle.std.specs.Map.{keys_of};
 ghost use Rattle.std.specs.Str.{bytes_eq};
-ghost use Rattle.farm_base.specs.Digests.{IsBytes};
+ghost use Rattle.names.specs.Digests.{IsBytes};
 ghost use Rattle.folders.specs.declared.edit.Edit.{Edit};
 ghost use Rattle.folders.specs.declared.refusal.FolderRefusal.{FolderRefusal};
 ghost use Rattle.folders.specs.Edits.{edited};

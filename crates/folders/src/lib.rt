@@ -13,6 +13,6 @@ mod writing;
 
 pub use edit::Edit;
 pub use edited_folder::EditedFolder;
-pub use farm_base::Content;
 pub use folder::Folder;
+pub use names::Content;
 pub use refusal::{EditRefusal, FolderRefusal};

@@ -8,7 +8,7 @@ use Rattle.std.specs.List.{find, position_from, remove, AllByRecursion}
 use Rattle.std.specs.List.Sorted.{IsStrictlyIncreasing, IsStrictlySortedBy}
 use Rattle.std.specs.Result.{result_ok}
 use Rattle.std.specs.declared.cmp.Ordering.TheVariants.{Less}
-use Rattle.farm_base.specs.Folders.{folder_cmp}
+use Rattle.names.specs.Folders.{folder_cmp}
 use Rattle.farm_base.specs.Wanted.{folders}
 use Rattle.farm_base.specs.declared.lease.Lease.{Lease}
 use Rattle.protocol.specs.Names.{FolderName, Ticket, Want, leased_wants}

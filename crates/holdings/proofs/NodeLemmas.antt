@@ -6,7 +6,7 @@ use Rattle.std.specs.List.{insert}
 use Rattle.std.specs.List.Sorted.{IsStrictlyIncreasing}
 use Rattle.std.proofs.Math.Bool.{or-true}
 use Rattle.std.proofs.lemmas.Bool.{cases_eq, ne_eqb}
-use Rattle.farm_base.specs.declared.number.NodeId.{NodeId}
+use Rattle.names.specs.declared.number.NodeId.{NodeId}
 use Rattle.protocol.specs.Lists.{put}
 use Rattle.protocol.proofs.Leases.{flip_false}
 use Rattle.holdings.specs.Places.{IsPlace, IsGap}

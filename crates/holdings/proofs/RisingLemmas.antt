@@ -7,8 +7,8 @@ use Rattle.std.specs.List.{dedup, dedup_from}
 use Rattle.std.specs.List.Sorted.{IsStrictlySortedBy}
 use Rattle.std.proofs.lemmas.List.Kept.{IsStrictlySortedBy-dedup}
 use Rattle.std.proofs.lemmas.List.Sorted.{list_any-IsPermutation}
-use Rattle.farm_base.specs.Slots.{slot_cmp}
-use Rattle.farm_base.proofs.CompareLaws as laws
+use Rattle.names.specs.Slots.{slot_cmp}
+use Rattle.names.proofs.CompareLaws as laws
 use Rattle.protocol.specs.Names.{Slot, slot_eq}
 use Rattle.holdings.specs.Leases.{among}
 

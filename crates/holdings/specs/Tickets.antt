@@ -1,6 +1,6 @@
 -- Where tickets come from.
 use Rattle.std.specs.Prelude.{ℕ, ◌+◌, ◌==◌, if◌then◌else◌, min}
-use Rattle.farm_base.specs.declared.limits.TheConstants.{GREATEST}
+use Rattle.names.specs.declared.limits.TheConstants.{GREATEST}
 
 -- a ticket source, as contracts see it
 pub record Tickets : Type 0 where

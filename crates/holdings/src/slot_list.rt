@@ -1,7 +1,7 @@
 //! Lists of slots.
 ghost use Rattle.std.specs.Prelude.{◌≡◌, IfOk};
 ghost use Rattle.std.specs.List.Sorted.{IsStrictlySortedBy};
-ghost use Rattle.farm_base.specs.Slots.{slot_cmp};
+ghost use Rattle.names.specs.Slots.{slot_cmp};
 ghost use Rattle.holdings.specs.Leases.{among};
 
 use farm_base::Slot;

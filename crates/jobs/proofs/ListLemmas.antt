@@ -13,7 +13,7 @@ use Rattle.std.proofs.lemmas.List.Sorted.{IsPermutation-insert, searched}
 use Rattle.std.proofs.lemmas.Map.Keys.{IsDistinct-cons, IsDistinct-IsPermutation, below_from_sorted, sorted_from_strictly_increasing}
 use Rattle.std.proofs.lemmas.Map.Steps.{length-le_from_distinct_below}
 use Rattle.std.proofs.lemmas.Option.{slice_get_within}
-use Rattle.farm_base.specs.declared.digest.Key.{Key}
+use Rattle.names.specs.declared.digest.Key.{Key}
 use Rattle.lists.proofs.Places.{Contains-cases, Contains-head, Contains-tail, some_is}
 use Rattle.vertices.proofs.ZipLemmas.{all_zip_length}
 use Rattle.keytable.specs.declared.entry.Entry.{Entry}

@@ -5,8 +5,8 @@ use Rattle.std.specs.List.{Contains}
 use Rattle.std.proofs.lemmas.Bool.{cases_eq}
 use Rattle.std.proofs.lemmas.List.{length-set}
 use Rattle.std.proofs.lemmas.Option.{slice_get_within}
-use Rattle.farm_base.specs.declared.digest.Digest.{Digest}
-use Rattle.farm_base.specs.declared.digest.Key.{Key}
+use Rattle.names.specs.declared.digest.Digest.{Digest}
+use Rattle.names.specs.declared.digest.Key.{Key}
 use Rattle.lists.proofs.Places.{Contains-at, at_Contains, at_place, some_is, get_set_cases}
 use Rattle.ordering.specs.Flags.{flag_at}
 use Rattle.keytable.specs.declared.entry.Entry.{Entry}

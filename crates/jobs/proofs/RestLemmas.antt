@@ -1,8 +1,8 @@
 -- Where nothing is left to do, no job waits.
 use Rattle.std.proofs.Common.{◌≡◌, ℕ, zero, suc, ◌<◌, List, Option, Some, None, Result, Ok, slice_get, refl, ap, subst, arith}
 use Rattle.std.specs.List.{Contains}
-use Rattle.farm_base.specs.declared.digest.Digest.{Digest}
-use Rattle.farm_base.specs.declared.digest.Key.{Key}
+use Rattle.names.specs.declared.digest.Digest.{Digest}
+use Rattle.names.specs.declared.digest.Key.{Key}
 use Rattle.jobs.specs.declared.answer.Answer.{Answer}
 use Rattle.jobs.specs.declared.answer.Answer.TheVariants as answers
 use Rattle.jobs.specs.declared.answer.JobsRefusal.{JobsRefusal}

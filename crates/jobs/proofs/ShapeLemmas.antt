@@ -2,8 +2,8 @@
 use Rattle.std.proofs.Common.{◌≡◌, ℕ, ◌<◌, ◌⊎◌, inl, inr, List, [], ◌∷◌, map, length, set, Some, slice_get, refl, ap, sym, ◌∙◌, subst, arith}
 use Rattle.std.specs.List.{Contains, IsDistinct}
 use Rattle.std.proofs.lemmas.Bool.{cases_eq}
-use Rattle.farm_base.specs.declared.digest.Digest.{Digest}
-use Rattle.farm_base.specs.declared.digest.Key.{Key}
+use Rattle.names.specs.declared.digest.Digest.{Digest}
+use Rattle.names.specs.declared.digest.Key.{Key}
 use Rattle.lists.proofs.Places.{get-set_same, get-set_other, some_is, at_place, Contains-cases, Contains-head, Contains-tail}
 use Rattle.vertices.specs.Loading.{GraphParts}
 use Rattle.keytable.specs.declared.entry.Entry.{Entry}

@@ -1,8 +1,8 @@
 -- What a table of jobs keeps for good, and the answer of each job (this project's own).
 use Rattle.std.specs.Prelude.{◌≡◌, ◌<◌, ℕ, List, Result, Ok, Err, Some, slice_get, slice_set}
 use Rattle.std.specs.List.{AllZip}
-use Rattle.farm_base.specs.declared.digest.Key.{Key}
-use Rattle.farm_base.specs.declared.digest.Digest.{Digest}
+use Rattle.names.specs.declared.digest.Key.{Key}
+use Rattle.names.specs.declared.digest.Digest.{Digest}
 use Rattle.jobs.specs.declared.answer.Answer.{Answer}
 use Rattle.jobs.specs.declared.answer.Answer.TheVariants as answers
 use Rattle.jobs.specs.declared.answer.JobsRefusal.{JobsRefusal}

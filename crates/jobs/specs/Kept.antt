@@ -1,7 +1,7 @@
 -- What a table of jobs is made of (this project's own).
 use Rattle.std.specs.Prelude.{◌≡◌, ◌≤◌, ℕ, [], List, length}
 use Rattle.std.specs.Vec.{vec_capacity}
-use Rattle.farm_base.specs.declared.digest.Key.{Key}
+use Rattle.names.specs.declared.digest.Key.{Key}
 use Rattle.keytable.specs.declared.entry.Entry.{Entry}
 use Rattle.jobs.specs.declared.known_keys.KnownKeys.{KnownKeys}
 use Rattle.jobs.specs.History.{History}

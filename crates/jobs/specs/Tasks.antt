@@ -1,7 +1,7 @@
 -- The keys that a table of jobs hands out (this project's own).
 use Rattle.std.specs.Prelude.{◌≡◌, List, [], ◌∷◌, ◌++◌}
-use Rattle.farm_base.specs.declared.digest.Digest.{Digest}
-use Rattle.farm_base.specs.declared.digest.Key.{Key}
+use Rattle.names.specs.declared.digest.Digest.{Digest}
+use Rattle.names.specs.declared.digest.Key.{Key}
 use Rattle.vertices.specs.Loading.{GraphParts}
 use Rattle.keytable.specs.declared.entry.Fault.{Fault}
 use Rattle.keytable.specs.declared.entry.Progress.TheVariants.{Out, Done, Failed}

@@ -1,6 +1,6 @@
 ghost use Rattle.std.specs.Prelude.{◌≡◌, ◌≤◌, ◌-◌, ◌++◌, ◌∷◌, [], false, Some, slice_get, OnOk, OnErr, length, take, replicate};
 ghost use Rattle.std.specs.Vec.{vec_capacity};
-ghost use Rattle.farm_base.specs.declared.digest.Key.{Key as SpecKey};
+ghost use Rattle.names.specs.declared.digest.Key.{Key as SpecKey};
 ghost use Rattle.solverkeys.specs.GraphKeys.{AreKeys};
 ghost use Rattle.keytable.specs.Adding.{AreAdded, IsFront};
 ghost use Rattle.jobs.specs.Kept.{AreListed};
@@ -12,8 +12,8 @@ ghost use Rattle.keytable.specs.Users.{AreUsers, IsClosed, IsSameUsers};
 use super::known_keys::KnownKeys;
 use super::ready::list_ready;
 use super::ready_list::ReadyList;
-use farm_base::Key;
 use keytable::{add_all, mark_new, reached, spread};
+use names::Key;
 use std::alloc::{AllocError, Global};
 use vertices::Graph;
 

@@ -3,8 +3,8 @@ ghost use Rattle.keytable.specs.Kept.{AreKept};
 ghost use Rattle.jobs.specs.declared.answer.JobsRefusal.TheVariants as refusal;
 ghost use Rattle.jobs.specs.History.{IsAnswer};
 
-use farm_base::{Digest, Key};
 use keytable::{Progress, Table, output_at};
+use names::{Digest, Key};
 use std::alloc::{AllocError, AllocFailed};
 use thiserror::Error;
 

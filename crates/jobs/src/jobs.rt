@@ -2,7 +2,7 @@ ghost use Rattle.std.specs.Prelude.{◌≡◌, ◌≤◌, ◌++◌, ◌∷◌, �
 ghost use Rattle.keytable.specs.declared.entry.Entry.{Entry as SpecEntry};
 ghost use Rattle.keytable.specs.declared.entry.Progress.TheVariants.{Waiting, Out, Done, Failed};
 ghost use Rattle.jobs.specs.declared.answer.JobsRefusal.TheVariants as refusal;
-ghost use Rattle.farm_base.specs.declared.digest.Key.{Key as SpecKey};
+ghost use Rattle.names.specs.declared.digest.Key.{Key as SpecKey};
 ghost use Rattle.solverkeys.specs.GraphKeys.{AreKeys};
 ghost use Rattle.keytable.specs.Adding.{AreAdded};
 ghost use Rattle.keytable.specs.Causes.{IsCause};
@@ -17,8 +17,8 @@ use super::known_keys::KnownKeys;
 use super::ready::task_of;
 use super::settling::finish;
 use super::task::Task;
-use farm_base::{Digest, Items, Key};
 use keytable::{Cause, Fault, Progress, cause_of, last_needed};
+use names::{Digest, Items, Key};
 use solverkeys::Keyed;
 use std::alloc::Global;
 use std::marker::Model;

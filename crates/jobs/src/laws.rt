@@ -1,5 +1,5 @@
 ghost use Rattle.std.specs.Prelude.{◌≡◌, ◌≢◌, ◌≤◌, ℕ, List, length, Some, slice_get, Result, Ok};
-ghost use Rattle.farm_base.specs.declared.digest.Key.{Key};
+ghost use Rattle.names.specs.declared.digest.Key.{Key};
 ghost use Rattle.jobs.specs.declared.answer.Answer.{Answer};
 ghost use Rattle.jobs.specs.declared.answer.Answer.TheVariants.{Waiting};
 ghost use Rattle.jobs.specs.declared.answer.JobsRefusal.{JobsRefusal};

@@ -10,8 +10,8 @@ ghost use Rattle.keytable.specs.Users.{AreUsers, IsUser};
 
 use super::ready_list::ReadyList;
 use super::task::Task;
-use farm_base::Key;
 use keytable::{Progress, Table, Users, output_of, outputs_of};
+use names::Key;
 use std::alloc::{AllocError, Global};
 
 /// Whether each input names an output that is there. Those before the cursor do, and it moves on to the

@@ -2,8 +2,8 @@ ghost use Rattle.std.specs.Prelude.{◌≡◌, ◌+◌, ◌<◌, ◌≤◌, ℕ,
 ghost use Rattle.std.specs.Vec.{vec_len, vec_capacity};
 ghost use Rattle.std.specs.List.{Contains};
 
-use farm_base::Key;
 use keytable::Table;
+use names::Key;
 use std::alloc::{AllocError, Global};
 
 /// The keys that were handed out, in that order, and behind them the ready ones by rising number.

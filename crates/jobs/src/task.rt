@@ -1,4 +1,4 @@
-use farm_base::{Digest, Key};
+use names::{Digest, Key};
 
 /// A key that is handed out, to be solved.
 #[derive(Drop)]

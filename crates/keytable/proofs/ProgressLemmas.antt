@@ -4,8 +4,8 @@ use Rattle.std.specs.List.{Contains}
 use Rattle.std.proofs.lemmas.Bool.{cases_eq}
 use Rattle.std.proofs.lemmas.List.{take-append-le, take_all}
 use Rattle.lists.proofs.Places.{get-set_same, get-set_other, get_set_cases, some_is}
-use Rattle.farm_base.specs.declared.digest.Digest.{Digest}
-use Rattle.farm_base.specs.declared.digest.Key.{Key}
+use Rattle.names.specs.declared.digest.Digest.{Digest}
+use Rattle.names.specs.declared.digest.Key.{Key}
 use Rattle.ordering.specs.Flags.{flag_at}
 use Rattle.keytable.specs.declared.entry.Entry.{Entry}
 use Rattle.keytable.specs.declared.entry.Fault.{Fault}

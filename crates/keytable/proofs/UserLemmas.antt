@@ -7,7 +7,7 @@ use Rattle.std.proofs.lemmas.Bool.{cases_eq, cases_lt}
 use Rattle.std.proofs.lemmas.List.{length-set, length-append, length-replicate, length_push, take_all, get_or_append_left, get_or_push, get_or_past, get_or-set_same, get_or-set_other, get_or_default}
 use Rattle.std.proofs.lemmas.List.Elements.{Contains-append_left, Contains-push, Contains-get_or}
 use Rattle.std.proofs.lemmas.Option.{slice_get_within, slice_get-get_or, slice_get_read}
-use Rattle.farm_base.specs.declared.digest.Key.{Key}
+use Rattle.names.specs.declared.digest.Key.{Key}
 use Rattle.lists.proofs.Places.{some_is, at_Contains, get_push_cases, get_front}
 use Rattle.keytable.specs.declared.entry.Entry.{Entry}
 use Rattle.keytable.specs.declared.users.Link.{Link}

@@ -1,7 +1,7 @@
 -- Why a job has no output (this project's own).
 use Rattle.std.specs.Prelude.{◌≡◌, ◌<◌, ℕ, List, Option, Some, None, slice_get}
 use Rattle.std.specs.List.{Contains}
-use Rattle.farm_base.specs.declared.digest.Key.{Key}
+use Rattle.names.specs.declared.digest.Key.{Key}
 use Rattle.keytable.specs.declared.cause.Cause.{Cause}
 use Rattle.keytable.specs.declared.cause.Cause.TheVariants as causes
 use Rattle.keytable.specs.declared.entry.Entry.{Entry}

@@ -1,7 +1,7 @@
 -- Marks on the submitted keys that fail (this project's own).
 use Rattle.std.specs.Prelude.{◌≡◌, ℕ, Bool, true, List, Some, slice_get, length}
 use Rattle.std.specs.List.{Contains}
-use Rattle.farm_base.specs.declared.digest.Key.{Key}
+use Rattle.names.specs.declared.digest.Key.{Key}
 use Rattle.ordering.specs.Flags.{flag_at}
 use Rattle.keytable.specs.declared.entry.Fault.{Fault}
 use Rattle.keytable.specs.declared.entry.Entry.{Entry}

@@ -1,7 +1,7 @@
 -- Which outputs of a key are needed (this project's own).
 use Rattle.std.specs.Prelude.{◌≡◌, ℕ, List, Some, slice_get}
 use Rattle.std.specs.List.{Contains}
-use Rattle.farm_base.specs.declared.digest.Key.{Key}
+use Rattle.names.specs.declared.digest.Key.{Key}
 use Rattle.keytable.specs.declared.entry.Entry.{Entry}
 use Rattle.keytable.specs.declared.users.Link.{Link}
 

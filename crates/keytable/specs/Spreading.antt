@@ -1,7 +1,7 @@
 -- Marks that spread from a key to its users (this project's own).
 use Rattle.std.specs.Prelude.{◌≡◌, ◌⊎◌, ℕ, Bool, true, List, Some, None, length, slice_get}
 use Rattle.std.specs.List.{Contains}
-use Rattle.farm_base.specs.declared.digest.Digest.{Digest}
+use Rattle.names.specs.declared.digest.Digest.{Digest}
 use Rattle.ordering.specs.Flags.{flag_at}
 use Rattle.keytable.specs.declared.users.Link.{Link}
 use Rattle.keytable.specs.Marks.{KeepsMarks}

@@ -1,6 +1,6 @@
 -- The numbers of submitted keys (this project's own).
 use Rattle.std.specs.Prelude.{◌≡◌, map}
-use Rattle.farm_base.specs.declared.digest.Key.{Key}
+use Rattle.names.specs.declared.digest.Key.{Key}
 use Rattle.indexmap.specs.IndexSet.{IsUnique}
 use Rattle.keytable.specs.declared.entry.Entry.{Entry}
 use Rattle.keytable.specs.declared.table.Table.{Table}

@@ -1,7 +1,7 @@
 -- Who takes the outputs of a key (this project's own).
 use Rattle.std.specs.Prelude.{◌≡◌, ◌<◌, ◌≤◌, ℕ, List, Option, Some, None, length, slice_get, slice_index_or}
 use Rattle.std.specs.List.{Contains}
-use Rattle.farm_base.specs.declared.digest.Key.{Key}
+use Rattle.names.specs.declared.digest.Key.{Key}
 use Rattle.keytable.specs.declared.entry.Entry.{Entry}
 use Rattle.keytable.specs.declared.users.Link.{Link}
 use Rattle.keytable.specs.declared.users.Users.{Users}

@@ -2,7 +2,7 @@ ghost use Rattle.std.specs.Prelude.{◌≡◌, ◌<◌, ◌≤◌, ◌+◌, ◌�
 ghost use Rattle.std.specs.Bool.{MatchBool};
 ghost use Rattle.std.specs.List.{Contains};
 ghost use Rattle.std.specs.Vec.{vec_len, vec_capacity};
-ghost use Rattle.farm_base.specs.declared.digest.Key.{Key as SpecKey};
+ghost use Rattle.names.specs.declared.digest.Key.{Key as SpecKey};
 ghost use Rattle.ordering.specs.Flags.{flag_at};
 ghost use Rattle.ordering.specs.Sorting.{open_count};
 ghost use Rattle.keytable.specs.declared.entry.Entry.{Entry as SpecEntry};

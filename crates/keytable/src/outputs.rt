@@ -1,7 +1,7 @@
 //! The outputs that inputs name.
 ghost use Rattle.std.specs.Prelude.{◌≡◌, IfOk, IfSome, IfNone, option_copied, slice_get};
 ghost use Rattle.std.specs.List.{AllZip};
-ghost use Rattle.farm_base.specs.declared.digest.Digest.{Digest as SpecDigest};
+ghost use Rattle.names.specs.declared.digest.Digest.{Digest as SpecDigest};
 ghost use Rattle.keytable.specs.Failing.{AreThere, HasOutput};
 ghost use Rattle.keytable.specs.Tables.{IsTable};
 

@@ -9,9 +9,9 @@ use Rattle.std.specs.List.{find, list_any}
 use Rattle.std.specs.Map.{update, update_all}
 use Rattle.std.specs.Option.{option_eq}
 use Rattle.indexmap.specs.IndexMap.{IndexMap, get}
-use Rattle.farm_base.specs.Folders.{folder_eq}
+use Rattle.names.specs.Folders.{folder_eq}
 use Rattle.farm_base.specs.declared.lease.Lease.{Lease}
-use Rattle.farm_base.proofs.NameLaws.{folder_exact}
+use Rattle.names.proofs.NameLaws.{folder_exact}
 use Rattle.protocol.specs.Names.{Slot, FolderName, Ticket, only_slot}
 use Rattle.protocol.specs.Ledger.{has_slot, has_ticket}
 use Rattle.protocol.proofs.Leases.{find_some}

@@ -8,9 +8,9 @@ use Rattle.std.proofs.lemmas.Bool.{cases_Bool, ne_eqb, eqb-true}
 use Rattle.std.proofs.lemmas.List.Elements.{All-head, All-tail}
 use Rattle.std.proofs.lemmas.List.Folds.{list_any-append, list_any_none}
 use Rattle.indexmap.specs.IndexMap.{IndexMap, get}
-use Rattle.farm_base.specs.Folders.{folder_eq}
+use Rattle.names.specs.Folders.{folder_eq}
 use Rattle.farm_base.specs.declared.lease.Lease.{Lease}
-use Rattle.farm_base.proofs.NameLaws.{folder_exact}
+use Rattle.names.proofs.NameLaws.{folder_exact}
 use Rattle.protocol.specs.Names.{Slot, FolderName, slot_eq}
 use Rattle.protocol.specs.Ledger.{has_slot, some_lease}
 use Rattle.leaseindex.specs.Instances.{has_of, instances_of, slot_instances, slot_names, lease_instances, AreTaken, AreRetired}

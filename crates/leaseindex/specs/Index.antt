@@ -1,7 +1,7 @@
 -- The live leases by folder: an index from each folder whose one slot a lease has to the lease's ticket.
 use Rattle.std.specs.Prelude.{◌≡◌, ◌==◌, Bool, true, List, map, filter, All, Option, Some}
 use Rattle.std.specs.List.{flat_map}
-use Rattle.farm_base.specs.Folders.{folder_eq}
+use Rattle.names.specs.Folders.{folder_eq}
 use Rattle.farm_base.specs.declared.lease.Lease.{Lease}
 use Rattle.indexmap.specs.IndexMap.{IndexMap, get}
 use Rattle.protocol.specs.Names.{Slot, FolderName, Ticket, only_slot}

@@ -3,9 +3,9 @@ use Rattle.std.specs.Prelude.{◌≡◌, ◌==◌, ℕ, ◌≤◌, ◌/◌, ◌%
 use Rattle.std.specs.Int.{bit_at}
 use Rattle.std.specs.List.{flat_map}
 use Rattle.indexmap.specs.IndexMap.{IndexMap, get, spare}
-use Rattle.farm_base.specs.Folders.{folder_eq}
+use Rattle.names.specs.Folders.{folder_eq}
 use Rattle.farm_base.specs.declared.lease.Lease.{Lease}
-use Rattle.farm_base.specs.declared.limits.TheConstants.{INSTANCES}
+use Rattle.names.specs.declared.limits.TheConstants.{INSTANCES}
 use Rattle.protocol.specs.Names.{Slot, FolderName}
 use Rattle.protocol.specs.Ledger.{some_lease}
 use Rattle.holdings.specs.Leases.{among}

@@ -1,6 +1,6 @@
 -- Sets to which instances of a folder are added, or from which they are taken.
 use Rattle.std.specs.Prelude.{◌≡◌, ℕ, ◌≤◌, Bool, not, ◌&&◌, ◌||◌}
-use Rattle.farm_base.specs.declared.limits.TheConstants.{INSTANCES}
+use Rattle.names.specs.declared.limits.TheConstants.{INSTANCES}
 use Rattle.protocol.specs.Names.{Slot, FolderName}
 use Rattle.leaseindex.specs.Instances.{has}
 use Rattle.leaseindex.specs.declared.instances.Instances.{Instances}

@@ -2,7 +2,7 @@
 ghost use Rattle.std.specs.Prelude.{◌≡◌, ◌≢◌, ◌≤◌, ◌++◌, true, All, IfOk, OnOk, vec_len};
 ghost use Rattle.std.specs.Map.{update_all};
 ghost use Rattle.indexmap.specs.IndexMap.{spare};
-ghost use Rattle.farm_base.specs.Folders.{folder_eq};
+ghost use Rattle.names.specs.Folders.{folder_eq};
 ghost use Rattle.farm_base.specs.declared.lease.Lease.{Lease};
 ghost use Rattle.leaseindex.specs.Endings.{ends_lease};
 ghost use Rattle.leaseindex.specs.Index.{ticket_at, IsIndexed, AreIndexed, slot_entries, index_entries};

@@ -1,6 +1,6 @@
 //! A set of a folder's instances.
 ghost use Rattle.std.specs.Prelude.{◌≡◌, ◌↔◌, ◌==◌, ℕ, ◌<◌, ◌≤◌, ◌&&◌, ◌||◌, true, false, not};
-ghost use Rattle.farm_base.specs.declared.limits.TheConstants.{INSTANCES};
+ghost use Rattle.names.specs.declared.limits.TheConstants.{INSTANCES};
 ghost use Rattle.leaseindex.specs.Instances.{has};
 
 /// The number of words, for instances up to 4,096.

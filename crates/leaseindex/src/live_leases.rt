@@ -1,7 +1,7 @@
 //! The leases of a table, and the ways to find one of them.
 ghost use Rattle.std.specs.Prelude.{◌≡◌, ℕ, ◌+◌, ◌≤◌, not, [], ◌∷◌, ◌++◌, filter, length, IfOk, OnOk, OnErr, option_copied, vec_len};
 ghost use Rattle.std.specs.List.{find};
-ghost use Rattle.farm_base.specs.declared.limits.TheConstants.{INSTANCES};
+ghost use Rattle.names.specs.declared.limits.TheConstants.{INSTANCES};
 ghost use Rattle.protocol.specs.Names.{only_slot};
 ghost use Rattle.protocol.specs.Ledger.{has_slot, is_at, lease_of, lease_under, some_lease, without};
 ghost use Rattle.leaseindex.specs.Endings.{ends_lease, frees, has_ended};

@@ -1,6 +1,6 @@
 //! PRIVATE slots that are never granted again, and the instances that they are.
-ghost use Rattle.std.specs.Prelude.{◌≡◌, ℕ, ◌+◌, ◌≤◌, [], ◌++◌, map, length, vec_len, IfOk, OnOk, OnErr};
-ghost use Rattle.farm_base.specs.declared.limits.TheConstants.{INSTANCES};
+ghost use Rattle.std.specs.Prelude.{◌≡◌, ℕ, ◌+◌, ◌≤◌, [], ◌++◌, length, vec_len, IfOk, OnOk, OnErr};
+ghost use Rattle.names.specs.declared.limits.TheConstants.{INSTANCES};
 ghost use Rattle.leaseindex.specs.Instances.{has, slot_names};
 ghost use Rattle.holdings.specs.Leases.{among};
 

@@ -1,8 +1,8 @@
 //! The instances of folders that live leases have.
 ghost use Rattle.std.specs.Prelude.{◌≡◌, ◌==◌, ℕ, ◌+◌, ◌<◌, ◌≤◌, ◌++◌, ◌&&◌, ◌||◌, not, false, vec_len, IfOk, OnOk};
 ghost use Rattle.std.specs.List.{list_any};
-ghost use Rattle.farm_base.specs.Folders.{folder_eq};
-ghost use Rattle.farm_base.specs.declared.limits.TheConstants.{INSTANCES};
+ghost use Rattle.names.specs.Folders.{folder_eq};
+ghost use Rattle.names.specs.declared.limits.TheConstants.{INSTANCES};
 ghost use Rattle.protocol.specs.Names.{FolderName};
 ghost use Rattle.protocol.specs.Ledger.{has_slot};
 ghost use Rattle.leaseindex.specs.Endings.{frees};

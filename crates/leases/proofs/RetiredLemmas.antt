@@ -3,7 +3,7 @@ use mathlib.Core.Path.{fun_ext}
 use Rattle.std.proofs.Common.{◌≡◌, List, [], ◌∷◌, ◌++◌, Bool, true, false, ◌&&◌, ◌||◌, cond, map, filter, Option, Some, None, refl, sym, ◌∙◌, ap}
 use Rattle.std.proofs.Math.Bool.{or_comm, or-false, and-false, and-or_distrib_left}
 use Rattle.std.proofs.lemmas.List.Folds.{list_any-append}
-use Rattle.farm_base.proofs.CompareLaws as laws
+use Rattle.names.proofs.CompareLaws as laws
 use Rattle.farm_base.specs.declared.lease.Lease.{Lease}
 use Rattle.protocol.specs.Names.{Slot, slot_eq, is_private}
 use Rattle.protocol.specs.Ledger.{has_slot, some_lease, retire_all}

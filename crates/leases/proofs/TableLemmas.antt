@@ -9,11 +9,11 @@ use Rattle.std.specs.declared.cmp.Ordering.TheVariants.{Less}
 use Rattle.std.proofs.lemmas.List.Elements.{All-push, All-tail}
 use Rattle.std.proofs.lemmas.List.Folds.{list_any-append}
 use Rattle.std.proofs.lemmas.List.Quantifiers.{all_pairs_push}
-use Rattle.farm_base.specs.Folders.{folder_cmp}
-use Rattle.farm_base.specs.Slots.{slot_cmp}
+use Rattle.names.specs.Folders.{folder_cmp}
+use Rattle.names.specs.Slots.{slot_cmp}
 use Rattle.farm_base.specs.Wanted.{folders, IsWants}
 use Rattle.farm_base.specs.declared.lease.Lease.{Lease}
-use Rattle.farm_base.proofs.CompareLaws as laws
+use Rattle.names.proofs.CompareLaws as laws
 use Rattle.protocol.proofs.Leases as instances
 use Rattle.protocol.specs.Names.{Slot, slot_eq, is_private, only_slot, FolderName, NodeId, Life, Ask, Ticket, Want, leased_wants}
 use Rattle.protocol.specs.Ledger.{has_slot, some_lease, lowest, slot_for, all_taken, busy, has_ticket}

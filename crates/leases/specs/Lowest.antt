@@ -1,6 +1,6 @@
 -- The lowest free instance of a folder.
 use Rattle.std.specs.Prelude.{◌≡◌, ◌≢◌, ℕ, ◌≤◌, ◌<◌, Bool, true, false}
-use Rattle.farm_base.specs.declared.limits.TheConstants.{INSTANCES}
+use Rattle.names.specs.declared.limits.TheConstants.{INSTANCES}
 use Rattle.protocol.specs.Names.{Slot, FolderName}
 use Rattle.protocol.specs.Ledger.{lowest}
 

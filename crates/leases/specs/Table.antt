@@ -1,7 +1,7 @@
 -- What a lease table holds, and whether an ask fits.
 use Rattle.std.specs.Prelude.{◌==◌, Bool, true, false, not, ◌&&◌, List, [], map, filter, Option, Some, None}
 use Rattle.std.specs.List.{find, flat_map}
-use Rattle.farm_base.specs.declared.limits.TheConstants.{INSTANCES}
+use Rattle.names.specs.declared.limits.TheConstants.{INSTANCES}
 use Rattle.farm_base.specs.declared.lease.Lease.{Lease}
 use Rattle.protocol.specs.Names.{FolderName, Slot, is_private, NodeId, Life, Ask, Ticket, Want, any_shared, leased_wants}
 use Rattle.protocol.specs.Ledger.{has_slot, some_lease, lowest, slot_for, all_taken, busy, retires}

@@ -1,7 +1,7 @@
 //! The changes that one event makes, over a lease table that stays as it is until they are applied.
 ghost use Rattle.std.specs.Prelude.{◌≡◌, ◌<◌, not, [], ◌∷◌, ◌++◌, filter, All, IfOk, IfSome, OnOk, OnErr};
 ghost use Rattle.std.specs.List.Sorted.{IsStrictlySortedBy};
-ghost use Rattle.farm_base.specs.Slots.{slot_cmp};
+ghost use Rattle.names.specs.Slots.{slot_cmp};
 ghost use Rattle.protocol.specs.Ledger.{lease_under, without, is_older, is_at, is_saved, retire_all};
 ghost use Rattle.leases.specs.Changes.{changed, saved_tickets};
 ghost use Rattle.leaseindex.specs.Endings.{ends_lease};

@@ -1,7 +1,7 @@
 ghost use Rattle.std.specs.Prelude.{◌≡◌, [], ◌&&◌, IfOk, option_copied};
 ghost use Rattle.std.specs.List.{find, list_any};
 ghost use Rattle.std.specs.List.Sorted.{IsStrictlySortedBy};
-ghost use Rattle.farm_base.specs.Slots.{slot_cmp};
+ghost use Rattle.names.specs.Slots.{slot_cmp};
 ghost use Rattle.protocol.specs.Ledger.{has_slot, lease_under, is_at};
 ghost use Rattle.leases.specs.Changes.{changed};
 ghost use Rattle.leaseindex.specs.Endings.{ends_lease};

@@ -1,5 +1,5 @@
 //! What the record has of leases.
-ghost use Rattle.std.specs.Prelude.{◌≡◌, ◌&&◌, filter, map, IfOk, option_copied};
+ghost use Rattle.std.specs.Prelude.{◌≡◌, ◌&&◌, filter, IfOk, option_copied};
 ghost use Rattle.protocol.specs.Ledger.{is_saved};
 ghost use Rattle.leases.specs.Changes.{ticket_of_saved, saved_tickets};
 

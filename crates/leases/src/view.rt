@@ -1,9 +1,9 @@
 //! A lease table with changes over it, as it would be looked at.
-ghost use Rattle.std.specs.Prelude.{if◌then◌else◌, ◌≡◌, ◌≢◌, ℕ, ◌≤◌, true, false, not, filter, ◌&&◌, IfOk, option_copied};
+ghost use Rattle.std.specs.Prelude.{◌≡◌, ◌≢◌, ℕ, ◌≤◌, true, false, not, filter, ◌&&◌, IfOk, option_copied};
 ghost use Rattle.std.specs.List.{find, list_any};
 ghost use Rattle.std.specs.List.Sorted.{IsStrictlySortedBy};
-ghost use Rattle.farm_base.specs.Slots.{slot_cmp};
-ghost use Rattle.farm_base.specs.declared.limits.TheConstants.{INSTANCES};
+ghost use Rattle.names.specs.Slots.{slot_cmp};
+ghost use Rattle.names.specs.declared.limits.TheConstants.{INSTANCES};
 ghost use Rattle.farm_base.specs.Wanted.{IsWants};
 ghost use Rattle.protocol.specs.Names.{leased_wants, is_private, only_slot};
 ghost use Rattle.protocol.specs.Ledger.{has_slot, lowest, slot_for, all_taken, busy, lease_of, lease_under, is_older, is_at};

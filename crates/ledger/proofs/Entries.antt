@@ -6,7 +6,7 @@ use Rattle.std.proofs.lemmas.Bool.{cases_Bool, ne_eqb}
 use Rattle.std.proofs.lemmas.List.{append-nil}
 use Rattle.std.proofs.lemmas.List.Elements.{All-filter, filter-append}
 use Rattle.std.proofs.lemmas.List.Kept.{AllPairs-filter}
-use Rattle.farm_base.specs.declared.limits.TheConstants.{NODES}
+use Rattle.names.specs.declared.limits.TheConstants.{NODES}
 use Rattle.leaseindex.specs.Endings.{has_ended}
 use Rattle.leases.specs.Changes.{saved_tickets}
 use Rattle.leaseindex.specs.declared.ending.Ending.{Ending}
@@ -30,8 +30,8 @@ use Rattle.saverecord.specs.Logs.{Follows, IsSaved}
 use Rattle.saverecord.specs.Logs.{is_ended}
 use Rattle.saverecord.proofs.FoldLemmas.{above_all}
 use Rattle.saverecord.proofs.LedgerLemmas.{all_from_in, line_in, none_from_in}
-use Rattle.drafts.specs.Shown.{lines_with}
-use Rattle.drafts.specs.Sound.{IsRightful}
+use Rattle.effects.specs.Shown.{lines_with}
+use Rattle.effects.specs.Sound.{IsRightful}
 use Rattle.ledger.proofs.Records.{up_to}
 
 -- ---- the lines that an event adds

@@ -4,8 +4,8 @@ use Rattle.protocol.specs.Names.{Slot}
 use Rattle.protocol.specs.Machine.{LineVersion}
 use Rattle.versions.specs.declared.lines.Added.{Added}
 use Rattle.versions.specs.declared.lines.SlotLine.{SlotLine}
-use Rattle.drafts.specs.Held.{line_at}
-use Rattle.drafts.specs.Shown.{lines_with}
+use Rattle.effects.specs.Held.{line_at}
+use Rattle.effects.specs.Shown.{lines_with}
 use Rattle.ledger.specs.Settling.{OnlyGrow}
 
 -- what a commit adds leaves all before it

@@ -4,7 +4,7 @@ use Rattle.std.specs.Prelude.{IfSome, is_some}
 use Rattle.protocol.specs.Ledger.{Saved, saves, reads}
 use Rattle.saverecord.specs.Logs.{Holds, saved_in}
 use Rattle.saverecord.specs.Texts.{Texts}
-use Rattle.drafts.specs.Held.{Held, ledger}
+use Rattle.effects.specs.Held.{Held, ledger}
 use Rattle.ledger.specs.Seen.{IsKeeping}
 use Rattle.ledger.specs.Keeping.{kept_with, kept_with_some}
 use Rattle.ledger.specs.Settling.{Saves, SavesIf}

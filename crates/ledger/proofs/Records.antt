@@ -4,8 +4,8 @@ use Rattle.std.specs.Prelude.{All, AllPairs, map}
 use Rattle.std.specs.List.Sorted.{IsStrictlyIncreasing, IsStrictlySortedBy}
 use Rattle.std.proofs.lemmas.List.Elements.{All-filter}
 use Rattle.std.proofs.lemmas.List.Kept.{AllPairs-cons}
-use Rattle.farm_base.specs.declared.limits.TheConstants.{NODES}
-use Rattle.farm_base.specs.Slots.{slot_cmp}
+use Rattle.names.specs.declared.limits.TheConstants.{NODES}
+use Rattle.names.specs.Slots.{slot_cmp}
 use Rattle.holdings.specs.Leases.{AreApart, Rises, AreLeases, IsOpen}
 use Rattle.holdings.specs.Lives.{AreLives}
 use Rattle.protocol.specs.Farm.{farm_limits}
@@ -23,7 +23,7 @@ use Rattle.saverecord.specs.Logs.{Holds, saved_by, saved_in}
 use Rattle.saverecord.specs.Texts.{Texts}
 use Rattle.saverecord.proofs.FoldLemmas.{pairs_of}
 use Rattle.saverecord.proofs.LedgerLemmas.{all_from_in}
-use Rattle.drafts.specs.Sound.{IsRightful}
+use Rattle.effects.specs.Sound.{IsRightful}
 use Rattle.leaseindex.proofs.EndedLemmas.{leases-filter}
 
 -- versions up to a ticket are so up to a higher one

@@ -5,10 +5,10 @@ use Rattle.protocol.specs.Ledger.{Ledger, Work, saves}
 use Rattle.events.specs.declared.answer.CoordRefusal.{CoordRefusal}
 use Rattle.versions.specs.Additions.{IsReady}
 use Rattle.versions.specs.Lines.{room_needed}
-use Rattle.drafts.specs.declared.effects.Prepared.{Prepared}
-use Rattle.drafts.specs.Held.{Held, ledger}
-use Rattle.drafts.specs.Shown.{work_of}
-use Rattle.drafts.specs.Sound.{IsRightful}
+use Rattle.effects.specs.declared.effects.Prepared.{Prepared}
+use Rattle.effects.specs.Held.{Held, ledger}
+use Rattle.effects.specs.Shown.{work_of}
+use Rattle.effects.specs.Sound.{IsRightful}
 
 -- what the record holds is as before, unless the work says that it changed
 abbrev pub ChangesAsTold : Ledger → Result Work CoordRefusal → Type 0

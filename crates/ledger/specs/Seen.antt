@@ -3,7 +3,7 @@ use Rattle.std.specs.Prelude.{◌≡◌, Bool, false}
 use Rattle.protocol.specs.Ledger.{Saved, saves}
 use Rattle.saverecord.specs.Logs.{Holds}
 use Rattle.saverecord.specs.Texts.{Texts}
-use Rattle.drafts.specs.Held.{Held, ledger}
+use Rattle.effects.specs.Held.{Held, ledger}
 
 -- a coordinator, over a keeper of this kind
 pub record Seen (K : Type 0) : Type 0 where

@@ -11,7 +11,7 @@ use Rattle.saverecord.specs.Texts.{Texts}
 use Rattle.recordparts.specs.declared.refusal.RecordRefusal.{RecordRefusal}
 use Rattle.saverecord.specs.declared.refusal.KeeperRefusal.{KeeperRefusal}
 use Rattle.saverecord.specs.declared.refusal.KeeperRefusal.TheVariants.{Fault}
-use Rattle.drafts.specs.Held.{Held, ledger}
+use Rattle.effects.specs.Held.{Held, ledger}
 use Rattle.ledger.specs.Seen.{Seen}
 use Rattle.ledger.specs.declared.handled.Handled.{Handled}
 

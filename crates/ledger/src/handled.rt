@@ -1,4 +1,7 @@
-use events::CoordNote;
+ghost use Rattle.std.specs.Prelude.{◌≡◌};
+ghost use Rattle.ledger.specs.Settling.{is_save_fault};
+
+use events::{CoordNote, CoordRefusal};
 use farm_base::{FromCoord, Items};
 
 /// The result of a message or of a call.
@@ -8,4 +11,11 @@ pub struct Handled {
     pub sends: Items<FromCoord>,
     /// What was done.
     pub note: CoordNote,
+}
+
+/// Whether the answer is that the save failed.
+pub fn is_save_fault(answer: &Result<Handled, CoordRefusal>) -> bool
+    ensures { result ≡ is_save_fault answer.now }
+{
+    matches!(answer, Err(CoordRefusal::SaveFault))
 }

@@ -6,17 +6,17 @@ ghost use Rattle.saverecord.specs.Ledgers.{IsKept, ledger_of};
 ghost use Rattle.saverecord.specs.Logs.{Holds};
 ghost use Rattle.saverecord.specs.Texts.{Texts, whole_alone, with_text};
 ghost use Rattle.ledger.specs.Keeping.{kept_with};
-ghost use Rattle.drafts.specs.Held.{line_at, ledger};
+ghost use Rattle.effects.specs.Held.{line_at, ledger};
 ghost use Rattle.versions.specs.Additions.{IsReady};
 ghost use Rattle.leases.specs.Changes.{changed, HasRoom};
 ghost use Rattle.holdings.specs.Leases.{AreLeases};
 ghost use Rattle.saverecord.specs.Keepers.{HasFailed};
-ghost use Rattle.drafts.specs.Keeps.{held, IsKeepable};
+ghost use Rattle.effects.specs.Keeps.{held, IsKeepable};
 ghost use Rattle.ledger.specs.Seen.{IsKeeping};
 ghost use Rattle.ledger.specs.Settling.{Answers, Loads, OnlyGrow, is_save_fault};
-ghost use Rattle.drafts.specs.Shown.{work_of};
+ghost use Rattle.effects.specs.Shown.{work_of};
 ghost use Rattle.versions.specs.Lines.{lines_with, room_needed};
-ghost use Rattle.drafts.specs.Sound.{IsRightful};
+ghost use Rattle.effects.specs.Sound.{IsRightful};
 ghost use Rattle.parked.specs.Queue.{HasRoomFor};
 ghost use Rattle.ledger.specs.Prepared.{IsPrepared};
 
@@ -25,7 +25,7 @@ use super::nodes::{begin, retire};
 use super::record::{entry_of, record_of, state_of};
 use super::table_room::{put_back, put_changed, take_table};
 use super::text::{Sizes, Text, save};
-use drafts::{Change, Effects, Prepared, State};
+use effects::{Change, Effects, Prepared, State};
 use events::CoordRefusal;
 use farm_base::Items;
 use leases::TableWithRoom;
@@ -50,11 +50,11 @@ impl Drop for Ledger {
 }
 
 impl Model for Ledger {
-    ghost use Rattle.drafts.specs.Held.{Held};
+    ghost use Rattle.effects.specs.Held.{Held};
 
     ghost Value = { Held };
 
-    ghost use Rattle.drafts.specs.Keeps.{held, IsKeepable};
+    ghost use Rattle.effects.specs.Keeps.{held, IsKeepable};
 
     ghost view = { λ c. held c.state };
 

@@ -8,5 +8,5 @@ mod record;
 mod table_room;
 mod text;
 
-pub use handled::Handled;
+pub use handled::{Handled, is_save_fault};
 pub use ledger::Ledger;

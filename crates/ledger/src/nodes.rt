@@ -3,9 +3,9 @@ ghost use Rattle.std.specs.Prelude.{◌≡◌, ◌+◌, ◌≤◌, length, map, 
 ghost use Rattle.std.specs.List.Sorted.{IsStrictlyIncreasing};
 ghost use Rattle.holdings.specs.Lives.{AreLives};
 ghost use Rattle.holdings.specs.Lives.{life_at, is_among};
-ghost use Rattle.drafts.specs.Shown.{with_life, with_gone};
+ghost use Rattle.effects.specs.Shown.{with_life, with_gone};
 
-use drafts::NewLife;
+use effects::NewLife;
 use farm_base::{NodeId, NodeLife};
 use holdings::{Lives, RetiredNodes};
 use std::alloc::{AllocError, Global};

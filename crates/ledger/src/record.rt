@@ -8,13 +8,13 @@ ghost use Rattle.saverecord.specs.Ledgers.{IsKept, ledger_of};
 ghost use Rattle.saverecord.specs.Logs.{with_lives, IsChange, AreInOrder};
 ghost use Rattle.saverecord.specs.Logs.{with_gone as with_nodes};
 ghost use Rattle.versions.specs.Additions.{IsReady};
-ghost use Rattle.drafts.specs.Keeps.{held, NotesSpent};
-ghost use Rattle.drafts.specs.Shown.{work_of, with_life, with_gone};
-ghost use Rattle.drafts.specs.Held.{ledger};
-ghost use Rattle.drafts.specs.Sound.{IsRightful};
+ghost use Rattle.effects.specs.Keeps.{held, NotesSpent};
+ghost use Rattle.effects.specs.Shown.{work_of, with_life, with_gone};
+ghost use Rattle.effects.specs.Held.{ledger};
+ghost use Rattle.effects.specs.Sound.{IsRightful};
 
 use super::nodes::{lives_with, nodes_with};
-use drafts::{Effects, NewLife, State};
+use effects::{Effects, NewLife, State};
 use farm_base::{Items, Lease, NodeId, NodeLife};
 use holdings::{Lives, RetiredNodes, TicketSource, is_saved};
 use leases::LeaseTable;

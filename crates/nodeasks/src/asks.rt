@@ -1,7 +1,7 @@
 //! An ask of a node's present life.
-ghost use Rattle.std.specs.Prelude.{◌≡◌, Bool, IfOk, is_some, option_copied};
+ghost use Rattle.std.specs.Prelude.{◌≡◌, IfOk, is_some, option_copied};
 ghost use Rattle.std.specs.List.{list_any};
-ghost use Rattle.farm_base.specs.Digests.{digest_eq};
+ghost use Rattle.names.specs.Digests.{digest_eq};
 ghost use Rattle.protocol.specs.Names.{Want};
 ghost use Rattle.protocol.specs.World.{keeps};
 ghost use Rattle.protocol.specs.Nodes.{wants_folder, is_tenure_of, is_home_of, uses, held, running, finished, recallable, is_base, needs};

@@ -5,12 +5,12 @@ use Rattle.std.specs.Prelude.{if◌then◌else◌, nat_eq, IsOk, OnOk}
 use Rattle.std.proofs.lemmas.Cmp.{nat_eq_equiv, nat_list_eq_equiv}
 use Rattle.std.proofs.lemmas.Grind.{common_steps}
 use Rattle.indexmap.specs.IndexMap.{IndexMap, get}
-use Rattle.farm_base.specs.Digests.{digest_eq}
-use Rattle.farm_base.specs.Slots.{slot_eq}
+use Rattle.names.specs.Digests.{digest_eq}
+use Rattle.names.specs.Slots.{slot_eq}
 use Rattle.farm_base.specs.Versions.{version_eq}
 use Rattle.farm_base.specs.declared.message.Version.{Version}
-use Rattle.farm_base.proofs.CompareLaws.{slot_equivalence}
-use Rattle.farm_base.specs.Contents.{content_digest}
+use Rattle.names.proofs.CompareLaws.{slot_equivalence}
+use Rattle.names.specs.Contents.{content_digest}
 use Rattle.protocol.specs.Names.{Slot, Digest, slots_eq}
 use Rattle.protocol.specs.Nodes.{Left, stored, news_of}
 use Rattle.protocol.specs.World.{keep, learn, learn_versions, learn_bases}

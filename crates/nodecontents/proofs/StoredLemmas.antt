@@ -14,11 +14,12 @@ use Rattle.std.proofs.lemmas.Map.Made.{update_all_none}
 use Rattle.std.proofs.lemmas.Map.Views.{lookup-from_Contains}
 use Rattle.indexmap.proofs.CallerLemmas.{insert_entry-new}
 use Rattle.indexmap.specs.IndexMap.{IndexMap, get, insert_entry, swap_remove_entry}
-use Rattle.farm_base.specs.Contents.{content_digest, empty_digest}
-use Rattle.farm_base.specs.Digests.{digest_eq}
+use Rattle.names.specs.Contents.{content_digest, empty_digest}
+use Rattle.names.specs.Digests.{digest_eq}
 use Rattle.farm_base.specs.Versions.{version_eq}
 use Rattle.farm_base.specs.declared.message.Version.{Version}
-use Rattle.farm_base.proofs.CompareLaws.{digest_exact, digest_eq-itself, slot_equivalence, version_exact, version_eq-itself}
+use Rattle.names.proofs.CompareLaws.{digest_exact, digest_eq-itself, slot_equivalence}
+use Rattle.farm_base.proofs.VersionLaws.{version_exact, version_eq-itself}
 use Rattle.lists.proofs.Places.{some_is, Contains-cases, Contains-head, Contains-tail}
 use Rattle.protocol.specs.Names.{Slot, Digest}
 use Rattle.protocol.specs.World.{keep, first_node, without}

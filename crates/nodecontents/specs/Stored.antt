@@ -3,8 +3,8 @@ use Rattle.std.specs.Prelude.{◌≡◌, ℕ, Bool, true, ◌&&◌, List, [], �
 use Rattle.std.specs.List.{list_all}
 use Rattle.std.specs.Map.{lookup}
 use Rattle.indexmap.specs.IndexMap.{IndexMap, get}
-use Rattle.farm_base.specs.Contents.{content_digest}
-use Rattle.farm_base.specs.Digests.{digest_eq}
+use Rattle.names.specs.Contents.{content_digest}
+use Rattle.names.specs.Digests.{digest_eq}
 use Rattle.farm_base.specs.Versions.{version_eq}
 use Rattle.farm_base.specs.declared.message.Version.{Version}
 use Rattle.protocol.specs.Names.{Slot, Digest, Life}

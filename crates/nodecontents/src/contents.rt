@@ -4,7 +4,7 @@ ghost use Rattle.protocol.specs.Machine.{slots_of, written};
 ghost use Rattle.protocol.specs.Names.{slots_eq};
 ghost use Rattle.protocol.specs.Nodes.{news_of};
 ghost use Rattle.protocol.specs.World.{first_node, learn};
-ghost use Rattle.farm_base.specs.Contents.{content_digest};
+ghost use Rattle.names.specs.Contents.{content_digest};
 ghost use Rattle.nodecontents.specs.Stored.{base_of, version_of};
 ghost use Rattle.nodecontents.specs.Stored.{agree_on, agrees, known_in, learn_all, HaveOneDigestEach};
 

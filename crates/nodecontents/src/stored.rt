@@ -1,7 +1,7 @@
 //! The contents that a node stores.
 ghost use Rattle.std.specs.Prelude.{◌≡◌, ◌≢◌, ◌≤◌, ◌<◌, ◌+◌, IfOk, IfSome, OnOk, is_some, option_copied, vec_len};
 ghost use Rattle.indexmap.specs.IndexMap.{spare, values};
-ghost use Rattle.farm_base.specs.Contents.{content_digest, empty_digest};
+ghost use Rattle.names.specs.Contents.{content_digest, empty_digest};
 ghost use Rattle.protocol.specs.Nodes.{stored};
 ghost use Rattle.protocol.specs.World.{first_node, without};
 ghost use Rattle.nodecontents.specs.Stored.{store_each, store_in, store_one, AreStored};

@@ -1,7 +1,7 @@
 -- The Fetches that a node sends.
 use Rattle.std.proofs.Common.{◌≡◌, ℕ, suc, ◌+◌, ◌-◌, ◌<◌, ◌==◌, Bool, true, false, not, cond, List, [], ◌∷◌, ◌++◌, map, filter, refl, ap, ◌∙◌, arith}
-use Rattle.farm_base.specs.declared.digest.Digest.{Digest}
-use Rattle.farm_base.specs.declared.number.NodeId.{NodeId}
+use Rattle.names.specs.declared.digest.Digest.{Digest}
+use Rattle.names.specs.declared.number.NodeId.{NodeId}
 use Rattle.protocol.specs.Machine.{Message, Fetches, GrantedSlot}
 use Rattle.protocol.specs.Nodes.{Place, nodes_from, fetches, fetches_of, is_missing}
 use Rattle.protocol.specs.World.{Node}

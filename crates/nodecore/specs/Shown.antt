@@ -6,7 +6,7 @@ use Rattle.protocol.specs.Names.{Digest, Ticket}
 use Rattle.protocol.specs.Machine.{Grant, GrantedSlot}
 use Rattle.farm_base.specs.declared.message.Version.{Version}
 use Rattle.protocol.specs.Nodes.{NodeWork, NodeAnswer, Place, HeldGrant, first, held, all_stored, nothing, received}
-use Rattle.farm_base.specs.Contents.{content_digest}
+use Rattle.names.specs.Contents.{content_digest}
 use Rattle.farm_base.specs.Receivers.{receiver}
 use Rattle.protocol.specs.Farm.{farm_limits}
 use Rattle.farm_base.specs.declared.message.ToNode.{ToNode}

@@ -1,6 +1,6 @@
 ghost use Rattle.std.specs.Prelude.{◌≡◌, ◌++◌, IfOk, OnOk};
 ghost use Rattle.protocol.specs.Nodes.{fetches, fetches_of, is_missing};
-ghost use Rattle.farm_base.specs.Contents.{empty_digest};
+ghost use Rattle.names.specs.Contents.{empty_digest};
 ghost use Rattle.protocol.specs.Farm.{farm_limits};
 ghost use Rattle.nodecore.specs.Shown.{shown, place};
 

@@ -1,7 +1,7 @@
 //! How an execution ends at a node with what it leaves.
 ghost use Rattle.std.specs.Prelude.{◌≡◌, ◌<◌, ◌+◌, slice_get, Some, vec_len};
 ghost use Rattle.protocol.specs.Nodes.{HeldGrant, finished_with, leaving};
-ghost use Rattle.farm_base.specs.Contents.{content_digest};
+ghost use Rattle.names.specs.Contents.{content_digest};
 ghost use Rattle.events.specs.declared.ask.KeptAsk.{KeptAsk};
 ghost use Rattle.nodeasks.specs.declared.ask_row.AskRow.{AskRow};
 ghost use Rattle.nodecore.specs.Shown.{forgets, place, shown, Answers, Does};

@@ -3,7 +3,7 @@ ghost use Rattle.protocol.specs.Lists.{nth};
 ghost use Rattle.protocol.specs.Machine.{Said};
 ghost use Rattle.protocol.specs.World.{first_node};
 ghost use Rattle.protocol.specs.Nodes.{HeldGrant, first, held, aborted, all_stored, asked, asked_tenure, becomes, begun, gives_up, may_restart, opens, restarted};
-ghost use Rattle.farm_base.specs.Contents.{content_digest};
+ghost use Rattle.names.specs.Contents.{content_digest};
 ghost use Rattle.protocol.specs.Farm.{farm_limits};
 ghost use Rattle.events.specs.declared.ask.KeptAsk.{KeptAsk};
 ghost use Rattle.nodeasks.specs.declared.ask_row.AskRow.{AskRow};

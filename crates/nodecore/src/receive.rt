@@ -5,7 +5,7 @@ ghost use Rattle.events.specs.declared.ask.KeptAsk.{KeptAsk};
 ghost use Rattle.nodeasks.specs.declared.ask_row.AskRow.{AskRow};
 ghost use Rattle.protocol.specs.Lists.{nth};
 ghost use Rattle.protocol.specs.Nodes.{heard, unless_spent, brought, denied, dropped, fetched, finished, gives_back, granted, takes, learned, first, recallable, recalled};
-ghost use Rattle.farm_base.specs.Contents.{content_digest};
+ghost use Rattle.names.specs.Contents.{content_digest};
 ghost use Rattle.nodecore.specs.Shown.{forgets, shown, place, work_of, message_work, hearing, Does, Answers};
 
 use super::message::NodeDone;

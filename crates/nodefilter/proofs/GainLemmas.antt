@@ -1,21 +1,21 @@
 -- At a call a node stores nothing but what the call brings.
 use Rattle.std.proofs.Common.{◌≡◌, ℕ, ◌==◌, nat_lt, Bool, true, false, ◌||◌, ◌&&◌, not, if◌then◌else◌, ◌⊎◌, inl, inr, List, [], ◌∷◌, map, length, Option, Some, None, is_some, Ok, Err, refl, sym, subst}
 use Rattle.std.specs.List.{list_any, Contains}
-use Rattle.farm_base.specs.Contents.{content_digest}
+use Rattle.names.specs.Contents.{content_digest}
 use Rattle.farm_base.specs.Receivers.{receiver}
 use Rattle.farm_base.specs.declared.message.FromCoord.{FromCoord}
 use Rattle.farm_base.specs.declared.message.FromCoord.TheVariants as told
 use Rattle.farm_base.specs.declared.message.ToNode.TheVariants as to_node
-use Rattle.farm_base.specs.Digests.{digest_eq}
+use Rattle.names.specs.Digests.{digest_eq}
 use Rattle.lists.proofs.Places.{Contains-head, Contains-tail}
-use Rattle.farm_base.proofs.CompareLaws.{digest_exact, digest_eq-itself}
+use Rattle.names.proofs.CompareLaws.{digest_exact, digest_eq-itself}
 use Rattle.farm_base.specs.declared.message.Why.{Why}
 use Rattle.events.specs.declared.answer.NodeNote.TheVariants.{OldLife, Forgot}
 use Rattle.events.specs.declared.answer.NodeRefusal.{NodeRefusal}
 use Rattle.events.specs.declared.answer.NodeRefusal.TheVariants.{NotHomeHere, WrongNews, TenureHere, TenureInUse, LivesSpent, AsksSpent, NoSuchContent, Needed}
 use Rattle.events.specs.declared.ask.KeptAsk.{KeptAsk}
 use Rattle.events.specs.declared.ask.KeptAsk.TheVariants.{Open, Holding, Running, Finished, Over}
-use Rattle.farm_base.specs.declared.folder.Mode.TheVariants.{Shared}
+use Rattle.names.specs.declared.folder.Mode.TheVariants.{Shared}
 use Rattle.protocol.specs.Farm.{farm_limits}
 use Rattle.protocol.specs.Ledger.{Limits}
 use Rattle.protocol.specs.Machine.{Grant, Confirmed, slots_of, written}

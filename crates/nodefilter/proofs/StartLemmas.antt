@@ -3,9 +3,9 @@ use Rattle.std.proofs.Common.{◌≡◌, ◌≢◌, ℕ, Bool, true, false, if�
 use Rattle.std.specs.List.{All}
 use Rattle.std.specs.Result.{is_err}
 use Rattle.std.proofs.lemmas.List.Elements.{All-head, All-tail}
-use Rattle.farm_base.proofs.CompareLaws.{digest_exact}
-use Rattle.farm_base.specs.Contents.{content_digest}
-use Rattle.farm_base.specs.Digests.{digest_eq}
+use Rattle.names.proofs.CompareLaws.{digest_exact}
+use Rattle.names.specs.Contents.{content_digest}
+use Rattle.names.specs.Digests.{digest_eq}
 use Rattle.nodecontents.specs.Stored.{store_one, store_each}
 use Rattle.protocol.specs.Names.{Digest}
 use Rattle.protocol.specs.World.{keep, first_node}

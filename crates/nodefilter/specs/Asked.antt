@@ -4,7 +4,7 @@ use Rattle.std.specs.Str.{IsUtf8}
 use Rattle.farm_base.specs.declared.message.Message.{Message}
 use Rattle.farm_base.specs.declared.message.Message.TheVariants as to
 use Rattle.farm_base.specs.declared.message.ToNode.{ToNode}
-use Rattle.farm_base.specs.declared.number.NodeId.{NodeId}
+use Rattle.names.specs.declared.number.NodeId.{NodeId}
 use Rattle.farm_base.specs.Receivers.{receiver}
 use Rattle.farmwire.specs.declared.refusal.LineFault.TheVariants as line
 use Rattle.farmwire.specs.Sealed.{IsSealed, IsFault}

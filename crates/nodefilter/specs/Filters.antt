@@ -1,9 +1,9 @@
 -- How a node's filter answers a line (this project's own).
 use Rattle.std.specs.Prelude.{◌≡◌, ℕ, Bool, true, false, List, map, codes, None, is_some, option_map, Result}
-use Rattle.farm_base.specs.declared.digest.Digest.{Digest}
+use Rattle.names.specs.declared.digest.Digest.{Digest}
 use Rattle.farm_base.specs.declared.left.Left.{Left}
-use Rattle.farm_base.specs.declared.number.Ask.{Ask}
-use Rattle.farm_base.specs.declared.number.Ticket.{Ticket}
+use Rattle.names.specs.declared.number.Ask.{Ask}
+use Rattle.names.specs.declared.number.Ticket.{Ticket}
 use Rattle.nodecore.specs.declared.message.NodeDone.{NodeDone}
 use Rattle.nodeasks.specs.Asks.{told_unless}
 use Rattle.events.specs.declared.answer.NodeRefusal.{NodeRefusal}

@@ -1,6 +1,6 @@
 -- What contracts see of a node's filter.
 use Rattle.std.specs.Prelude.{◌≡◌, ◌≢◌, ℕ, Bool, true, false, List, [], Some}
-use Rattle.farm_base.specs.Contents.{content_digest}
+use Rattle.names.specs.Contents.{content_digest}
 use Rattle.nodecore.specs.Shown.{forgets, shown, place}
 use Rattle.protocol.specs.Names.{Digest, NodeId}
 use Rattle.protocol.specs.Nodes.{Place}

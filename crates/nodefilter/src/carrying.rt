@@ -1,6 +1,6 @@
 //! Calls that are carried out.
 ghost use Rattle.std.specs.Prelude.{◌≡◌, ◌≤◌, ◌⊎◌, ◌∷◌, ℕ, [], true, false, map, Some, None, IfOk, OnOk, OnErr};
-ghost use Rattle.farm_base.specs.Contents.{content_digest};
+ghost use Rattle.names.specs.Contents.{content_digest};
 ghost use Rattle.nodeasks.specs.Rows.{endings_after};
 ghost use Rattle.nodecore.specs.Shown.{forgets, shown, place, Answers};
 ghost use Rattle.nodelines.specs.declared.order.Call.{Call};

@@ -1,6 +1,6 @@
 //! How the process of a node begins.
 ghost use Rattle.std.specs.Prelude.{◌≡◌, ◌↔◌, true, false, [], All, Err, IfOk};
-ghost use Rattle.farm_base.specs.Contents.{content_digest};
+ghost use Rattle.names.specs.Contents.{content_digest};
 ghost use Rattle.nodecontents.specs.Stored.{kept_node};
 ghost use Rattle.protocol.specs.Farm.{farm_limits};
 ghost use Rattle.protocol.specs.Nodes.{may_restart};

@@ -1,15 +1,15 @@
 -- What a line of its agent asks of a node: a verb, and behind it what the verb takes (this project's own).
 use Rattle.std.specs.Prelude.{◌≡◌, ℕ, List, [], ◌∷◌, map, codes}
 use Rattle.std.specs.List.{All}
-use Rattle.farm_base.specs.declared.digest.Digest.{Digest}
-use Rattle.farm_base.specs.declared.folder.FolderName.{FolderName}
-use Rattle.farm_base.specs.declared.folder.Mode.TheVariants.{Shared}
-use Rattle.farm_base.specs.declared.number.Ask as number
-use Rattle.farm_base.specs.declared.number.Ticket.{Ticket}
+use Rattle.names.specs.declared.digest.Digest.{Digest}
+use Rattle.names.specs.declared.folder.FolderName.{FolderName}
+use Rattle.names.specs.declared.folder.Mode.TheVariants.{Shared}
+use Rattle.names.specs.declared.number.Ask as number
+use Rattle.names.specs.declared.number.Ticket.{Ticket}
 use Rattle.farm_base.specs.declared.want.Want.{Want}
-use Rattle.farm_base.specs.Decimals.{Lacks}
-use Rattle.farm_base.specs.Digests.{IsDigest}
-use Rattle.farm_base.specs.Names.{folder_text, IsName, IsSlot}
+use Rattle.names.specs.Decimals.{Lacks}
+use Rattle.names.specs.Digests.{IsDigest}
+use Rattle.names.specs.Names.{folder_text, IsName, IsSlot}
 use Rattle.farmwire.specs.Lawful.{IsAsk, IsTicket}
 use Rattle.words.specs.Words.{ticket_text, digits_text, slot_with, SpellGiven}
 use Rattle.farmwire.specs.Lines.{ask_text}

@@ -1,8 +1,8 @@
 -- What a node's filter writes (this project's own). The words of notes and refusals are those of a replay, with what
 -- they are about.
 use Rattle.std.specs.Prelude.{◌≡◌, ℕ, List, [], ◌∷◌, ◌++◌, map, codes, Option, Some, None, Result, Ok, Err}
-use Rattle.farm_base.specs.declared.digest.Digest.{Digest}
-use Rattle.farm_base.specs.declared.number.Ask.{Ask}
+use Rattle.names.specs.declared.digest.Digest.{Digest}
+use Rattle.names.specs.declared.number.Ask.{Ask}
 use Rattle.words.specs.Words.{ticket_text, digits_text, why_text}
 use Rattle.farmwire.specs.Lines.{ask_text, confirmed_text, grant_words}
 use Rattle.farmwire.specs.Words.{spaced}

@@ -4,9 +4,9 @@ use Rattle.std.specs.List.{All, list_any}
 use Rattle.std.proofs.lemmas.List.Elements.{All-push, All-weaker}
 use Rattle.std.proofs.lemmas.Bool.{or_left, or_right}
 use Rattle.std.proofs.lemmas.List.Folds.{list_any-append}
-use Rattle.farm_base.proofs.CompareLaws.{digest_exact, digest_eq-itself}
-use Rattle.farm_base.specs.Contents.{content_digest}
-use Rattle.farm_base.specs.Digests.{digest_eq}
+use Rattle.names.proofs.CompareLaws.{digest_exact, digest_eq-itself}
+use Rattle.names.specs.Contents.{content_digest}
+use Rattle.names.specs.Digests.{digest_eq}
 use Rattle.protocol.specs.Names.{Digest}
 
 -- the digest is one of these

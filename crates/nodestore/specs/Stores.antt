@@ -1,8 +1,8 @@
 -- What lasts of a node's process (this project's own).
 use Rattle.std.specs.Prelude.{◌≡◌, ◌≢◌, ℕ, Bool, true, List, Option, Some}
-use Rattle.farm_base.specs.Contents.{content_digest}
+use Rattle.names.specs.Contents.{content_digest}
 use Rattle.std.specs.List.{All, Contains, list_any}
-use Rattle.farm_base.specs.Digests.{digest_eq}
+use Rattle.names.specs.Digests.{digest_eq}
 use Rattle.protocol.specs.Names.{Digest, Life}
 use Rattle.nodestore.specs.declared.file_store.Found.{Found}
 

@@ -3,8 +3,8 @@ ghost use Rattle.std.specs.Prelude.{◌≡◌, IfOk};
 ghost use Rattle.nodestore.specs.Stores.{has_digest, HasFound};
 
 use super::store::{FileFault, Store, StoreFault};
-use farm_base::reading::{after, number, split};
-use farm_base::{Content, Digest, Key, Life, NodeId};
+use names::reading::{after, number, split};
+use names::{Content, Digest, Key, Life, NodeId};
 use std::alloc::{AllocError, Global};
 use std::fs::{self, OpenFile};
 use std::io::{self, ErrorKind, Read, Write};

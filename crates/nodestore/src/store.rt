@@ -1,11 +1,11 @@
 //! What lasts of a node's process, and the files of its agent.
 ghost use Rattle.std.specs.Prelude.{◌≡◌, Bool, true, ℕ, OnOk, Some, None};
-ghost use Rattle.farm_base.specs.declared.digest.Digest.{Digest};
-ghost use Rattle.farm_base.specs.Contents.{content_digest};
+ghost use Rattle.names.specs.declared.digest.Digest.{Digest};
+ghost use Rattle.names.specs.Contents.{content_digest};
 ghost use Rattle.nodestore.specs.declared.store.FileFault.TheVariants as faults;
 ghost use Rattle.nodestore.specs.Stores.{StayKept};
 
-use farm_base::{Content, Digest, Life};
+use names::{Content, Digest, Life};
 use std::alloc::{AllocError, AllocFailed, Global};
 use thiserror::Error;
 

@@ -1,4 +1,4 @@
-use farm_base::Copied;
+use names::Copied;
 use protowire::BodyList;
 use std::alloc::{AllocError, Global};
 

@@ -1,4 +1,4 @@
-use farm_base::{Copied, Items, Text};
+use names::{Copied, Items, Text};
 use std::alloc::{AllocError, Global};
 
 /// How a cache mount's folder is named and shared.

@@ -6,7 +6,7 @@ ghost use Rattle.opsproto.specs.Scalars.{int64_in, int32_in, bool_in, text_in};
 ghost use Rattle.opsproto.specs.Reading.{entries_of};
 
 use super::lent::RawText;
-use farm_base::Items;
+use names::Items;
 use protowire::{Field, Value, WireRefusal};
 use std::alloc::{AllocError, Global};
 

@@ -1,4 +1,4 @@
-use farm_base::{Copied, Text};
+use names::{Copied, Text};
 use std::alloc::{AllocError, Global};
 
 /// An output of another op, taken as input. `T` is how its text is kept: while a message is read, as

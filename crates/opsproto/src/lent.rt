@@ -5,7 +5,7 @@ ghost use Rattle.std.specs.Str.{IsUtf8};
 use super::input::Input;
 use super::op::Kind;
 use super::owning::own_inputs;
-use farm_base::Items;
+use names::Items;
 use std::alloc::{AllocError, Global};
 use std::marker::Model;
 

@@ -4,7 +4,7 @@ use super::exec::{ExecOp, Mount};
 use super::input::Input;
 use super::raw::EXEC;
 use super::write::write_exec;
-use farm_base::{Copied, Items, Text};
+use names::{Copied, Items, Text};
 use std::alloc::{AllocError, Global};
 use std::marker::Model;
 

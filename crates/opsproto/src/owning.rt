@@ -5,7 +5,7 @@ use super::exec::{CacheOpt, ExecOp, Meta, Mount};
 use super::input::Input;
 use super::lent::{LentOp, LentText};
 use super::op::{Kind, Op};
-use farm_base::{Items, Text};
+use names::{Items, Text};
 use std::alloc::{AllocError, Global};
 
 fn own_text(alloc: Global, lent: &LentText<'_>) -> Result<Text, AllocError>

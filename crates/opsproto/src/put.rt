@@ -8,7 +8,7 @@ ghost use Rattle.protowire.specs.Writing.{bytes_field};
 ghost use Rattle.opsproto.specs.Writing.{number_fields, int_fields, bool_fields, text_fields, each_fields};
 ghost use Rattle.opsproto.specs.Written.{IsText};
 
-use farm_base::Text;
+use names::Text;
 use std::alloc::AllocError;
 
 /// Appends a number, unless it is 0.

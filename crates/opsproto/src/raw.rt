@@ -16,7 +16,7 @@ use super::op::Kind;
 use super::reading::{INPUTS, exec_mounts_of, exec_of, inputs_of};
 use super::whole::whole_member;
 use bumpalo::Bump;
-use farm_base::Items;
+use names::Items;
 use protowire::{Field, Span, WireRefusal};
 use std::alloc::{AllocError, Global};
 

@@ -15,7 +15,7 @@ use super::raw::{RawOp, kind_of, mounts_in, raw_op};
 use super::refusal::OpRefusal;
 use super::texts::{exec_checked, inputs_checked, mounts_checked};
 use bumpalo::Bump;
-use farm_base::Items;
+use names::Items;
 use std::alloc::Global;
 
 /// The greatest size of a definition or an op: 16 MiB.

@@ -12,7 +12,7 @@ use super::input::Input;
 use super::lent::RawText;
 use super::whole::whole_body;
 use bumpalo::Bump;
-use farm_base::Items;
+use names::Items;
 use protowire::{Field, WireRefusal};
 use std::alloc::Global;
 

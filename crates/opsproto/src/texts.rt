@@ -8,7 +8,7 @@ use super::exec::{CacheOpt, ExecOp, Meta, Mount};
 use super::input::Input;
 use super::lent::{LentText, RawText};
 use super::refusal::OpRefusal;
-use farm_base::Items;
+use names::Items;
 use std::alloc::Global;
 use std::str;
 

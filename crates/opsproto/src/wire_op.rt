@@ -6,7 +6,7 @@ use super::exec::Mount;
 use super::op::{Kind, Op};
 use super::raw::{self, stripped_of};
 use super::read::{read_kind, read_mounts, read_op};
-use farm_base::Items;
+use names::Items;
 use protowire::Span;
 use std::alloc::{AllocError, Global};
 use std::marker::Model;

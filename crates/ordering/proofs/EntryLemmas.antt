@@ -8,7 +8,7 @@ use Rattle.std.specs.declared.alloc.Global.{Global}
 use Rattle.std.proofs.lemmas.Bool.{cases_lt}
 use Rattle.std.proofs.lemmas.List.{map_push, length_push}
 use Rattle.std.proofs.lemmas.Option.{slice_get-get_or, slice_get_within, get_or_from_slice_get}
-use Rattle.farm_base.specs.declared.digest.Digest.{Digest}
+use Rattle.names.specs.declared.digest.Digest.{Digest}
 use Rattle.lists.proofs.Places.{Contains-at, at_Contains, take_push, get_push_cases, get_push_left, get_push_end}
 use Rattle.ordering.specs.Rows.{row_at, AreRows, HasInput}
 use Rattle.ordering.specs.Orders.{IsReady, IsOrder, Walk, IsCyclic}

@@ -7,10 +7,10 @@ use Rattle.std.proofs.lemmas.Bool.{cases_lt, cases_order, cases_Bool}
 use Rattle.std.proofs.lemmas.List.{get_or_append_left, get_or_push, length_push}
 use Rattle.std.proofs.lemmas.Option.{slice_get-get_or, slice_get_within}
 use Rattle.std.proofs.lemmas.Slice.Eq.{bytes_eq-Decides}
-use Rattle.farm_base.specs.declared.digest.Digest.{Digest}
+use Rattle.names.specs.declared.digest.Digest.{Digest}
 use Rattle.ordering.specs.declared.table.Table.{Table}
-use Rattle.farm_base.proofs.CompareLaws.{digest_exact}
-use Rattle.farm_base.specs.Digests.{digest_eq}
+use Rattle.names.proofs.CompareLaws.{digest_exact}
+use Rattle.names.specs.Digests.{digest_eq}
 use Rattle.lists.proofs.Places.{get_push_cases, get_push_left, get_push_end}
 use Rattle.ordering.specs.Firsts.{IsFirstAt, number_in, IsTable}
 

@@ -2,8 +2,8 @@
 use Rattle.std.specs.Prelude.{◌≡◌, ℕ, ◌<◌, List, Option, Some, None, slice_get}
 use Rattle.std.specs.HashMap.{get}
 use Rattle.std.specs.List.Sorted.{IsStrictlyIncreasing}
-use Rattle.farm_base.specs.declared.digest.Digest.{Digest}
-use Rattle.farm_base.specs.Digests.{digest_eq}
+use Rattle.names.specs.declared.digest.Digest.{Digest}
+use Rattle.names.specs.Digests.{digest_eq}
 use Rattle.ordering.specs.declared.table.Table.{Table}
 
 -- the digest stands at this place, and at none before

@@ -1,5 +1,5 @@
 ghost use Rattle.std.specs.Prelude.{◌≡◌, ◌<◌, ℕ, [], Some, List, length, slice_get, IfOk, IfSome, IfNone, OnOk};
-ghost use Rattle.farm_base.specs.declared.digest.Digest.{Digest as SpecDigest};
+ghost use Rattle.names.specs.declared.digest.Digest.{Digest as SpecDigest};
 ghost use Rattle.ordering.specs.Firsts.{IsTable};
 ghost use Rattle.ordering.specs.Orders.{IsOrder, IsCyclic};
 ghost use Rattle.ordering.specs.Entries.{Entry, digests_of, IsVertex, NamesInput, LacksInput, AreResolved, HasUnknown, IsRowOf, AreRowsOf};
@@ -7,7 +7,7 @@ ghost use Rattle.ordering.specs.Entries.{Entry, digests_of, IsVertex, NamesInput
 use super::ordering::order_of;
 use super::refusal::OrderRefusal;
 use super::table::Table;
-use farm_base::Digest;
+use names::Digest;
 use std::alloc::{AllocError, Global};
 
 /// The places of the entries in the order in which they can be solved: each place after its

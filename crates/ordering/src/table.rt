@@ -1,6 +1,6 @@
 ghost use Rattle.std.specs.Prelude.{◌≡◌, ◌++◌, ◌∷◌, ℕ, [], List, Some, length, if◌then◌else◌, OnOk, IfOk, IfSome, IfNone, slice_get};
 
-use farm_base::Digest;
+use names::Digest;
 use std::alloc::{AllocError, Global};
 use std::collections::HashMap;
 
@@ -12,7 +12,7 @@ pub struct Table {
 }
 
 impl Table {
-    ghost use Rattle.farm_base.specs.declared.digest.Digest.{Digest};
+    ghost use Rattle.names.specs.declared.digest.Digest.{Digest};
     ghost use Rattle.ordering.specs.Firsts.{IsFirstAt, IsTable, number_in, places_in};
 
     /// An empty table.

@@ -13,8 +13,8 @@ use Rattle.std.proofs.lemmas.List.{nil_from_length}
 use Rattle.std.proofs.lemmas.Bool.{cases_Bool, cases_lt, eqb-true}
 use Rattle.std.proofs.lemmas.List.Elements.{All-head, All-tail, All-cons, All-nil, All-append}
 use Rattle.indexmap.specs.IndexMap.{get}
-use Rattle.farm_base.specs.Folders.{folder_eq}
-use Rattle.farm_base.proofs.NameLaws.{folder_exact}
+use Rattle.names.specs.Folders.{folder_eq}
+use Rattle.names.proofs.NameLaws.{folder_exact}
 use Rattle.protocol.specs.Lists.{In}
 use Rattle.protocol.specs.Names.{FolderName, NodeId, Slot}
 use Rattle.protocol.specs.Machine.{Parked}

@@ -1,7 +1,7 @@
 -- PRIVATE folders of which no instance is free.
 use Rattle.std.specs.Prelude.{◌≡◌, Bool, true, false, ◌&&◌, List}
 use Rattle.std.specs.List.{list_any}
-use Rattle.farm_base.specs.Folders.{folder_eq}
+use Rattle.names.specs.Folders.{folder_eq}
 use Rattle.protocol.specs.Lists.{In}
 use Rattle.protocol.specs.Names.{FolderName, Slot, Want, is_private}
 use Rattle.protocol.specs.Machine.{Parked}

@@ -21,8 +21,6 @@ mod messages;
 #[cfg(test)]
 mod mounts;
 #[cfg(test)]
-mod names;
-#[cfg(test)]
 mod ops;
 #[cfg(test)]
 mod orders;
@@ -30,3 +28,5 @@ mod orders;
 mod own_coordinator;
 #[cfg(test)]
 mod saves;
+#[cfg(test)]
+mod texts;

@@ -1,7 +1,7 @@
 -- A farm of these programs, as a run of processes.
 use Rattle.std.proofs.Common.{List, ℕ, arith, refl}
-use Rattle.farm_base.specs.Contents.{content_digest, empty_digest}
-use Rattle.farm_base.specs.declared.limits.TheConstants.{NODES}
+use Rattle.names.specs.Contents.{content_digest, empty_digest}
+use Rattle.names.specs.declared.limits.TheConstants.{NODES}
 use Rattle.nodefilter.proofs.RuleLemmas as node
 use Rattle.nodestore.specs.Stores.{has_digest}
 use Rattle.protocol.specs.Farm.{farm_limits}

@@ -3,8 +3,8 @@
 use Rattle.std.specs.Prelude.{◌≡◌, ℕ, List, []}
 use Rattle.coordinator.specs.Seen.{Seen}
 use Rattle.coordinator.specs.Settling.{TakesUp}
-use Rattle.farm_base.specs.Contents.{content_digest}
-use Rattle.farm_base.specs.declared.limits.TheConstants.{NODES}
+use Rattle.names.specs.Contents.{content_digest}
+use Rattle.names.specs.declared.limits.TheConstants.{NODES}
 use Rattle.filekeeper.specs.Keepers.{Filed, GatherSaves, FileGathers, FileSaves, FileLoads, FileSyncs, file_texts}
 use Rattle.nodefilter.specs.declared.filter.NodeFilter.{NodeFilter}
 use Rattle.nodefilter.specs.declared.starting.Origin.{Origin}

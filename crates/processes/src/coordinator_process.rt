@@ -12,6 +12,7 @@ ghost use Rattle.coordinatorfilter.specs.Rules.{
   AStartOverFilesIsARun,
 };
 
+use super::LONGEST_LINE;
 use super::fault::ProcessFault;
 use super::files::{key_of, lock_of};
 use super::kept::started;
@@ -21,16 +22,12 @@ use coordinatorfilter::laws::{
     a_batch_is_a_run, a_batch_over_files_is_a_run, a_kill_is_a_run, a_start_is_a_run,
     kills_and_starts_over_files_are_runs,
 };
-use farmwire::LINE_LIMIT;
 use saverecord::Keeper;
 use services::serve;
 use std::alloc::Global;
 use std::fs::File;
 use std::io::{self, BufWriter, Read, Write};
 use std::rt::Files;
-
-/// How long a line may be, with its end and the `m ` of what came from outside.
-const MOST: usize = LINE_LIMIT + 2;
 
 /// How many bytes of answers are written at once, at most.
 const TOGETHER: usize = 65536;
@@ -64,7 +61,14 @@ pub fn serve_coordinator<K: Keeper, R: Read + Drop, W: Write>(
     a_batch_is_a_run::<K>();
     a_kill_is_a_run::<K>();
     a_start_is_a_run::<K>();
-    serve(alloc, reader, writer, filter, MOST, GREETING.as_bytes())
+    serve(
+        alloc,
+        reader,
+        writer,
+        filter,
+        LONGEST_LINE,
+        GREETING.as_bytes(),
+    )
 }
 
 /// Answers the lines of the standard input.

@@ -12,3 +12,6 @@ pub use coordinator_process::{CoordinatorPlace, run_coordinator, serve_coordinat
 pub use fault::{Cause, ProcessFault};
 pub use files::{key_of, lock_of};
 pub use node_process::{NodePlace, run_node, serve_node};
+
+/// How long a line may be, with its end and the `m ` of what came from outside.
+const LONGEST_LINE: usize = farmwire::LINE_LIMIT + 2;

@@ -4,11 +4,12 @@ ghost use Rattle.nodefilter.specs.Rules.{ABatchIsARun, AKillIsARun, AStartIsARun
 ghost use Rattle.processes.specs.Farms.{EveryFarmStaysSafe};
 ghost use Rattle.processes.specs.Served.{IsNodeServed};
 
+use super::LONGEST_LINE;
 use super::fault::{Cause, ProcessFault};
 use super::files::{key_of, lock_of};
 use super::laws::a_farm_is_safe;
-use farm_base::{Life, NodeId};
-use farmwire::{FarmKey, LINE_LIMIT};
+use farmwire::FarmKey;
+use names::{Life, NodeId};
 use nodefilter::laws::{a_batch_is_a_run, a_kill_is_a_run, a_start_is_a_run};
 use nodefilter::{Origin, StartFault, Started, start};
 use nodestore::{FileStore, OpenFault, Store, open_store};
@@ -18,9 +19,6 @@ use std::fs::File;
 use std::io::{self, Read, Write};
 use std::rt::{Clock, Files};
 use std::time::{SystemTime, UNIX_EPOCH};
-
-/// How long a line may be, with its end and the `m ` of what came from outside.
-const MOST: usize = LINE_LIMIT + 2;
 
 /// Which node it is, and where it has its files.
 #[derive(Clone, Copy)]
@@ -60,7 +58,7 @@ pub fn serve_node<S: Store, R: Read + Drop, W: Write>(
         reader,
         writer,
         &mut filter,
-        MOST,
+        LONGEST_LINE,
         greeting.as_bytes(),
     )
 }

@@ -8,7 +8,7 @@ use Rattle.protocol.specs.Machine.{GrantedSlot, Grant, News, Confirmed, Granted,
 use Rattle.farm_base.specs.declared.message.FromCoord.TheVariants as told
 use Rattle.events.specs.declared.answer.How.TheVariants as how
 use Rattle.protocol.specs.World.{KeptAsk, Open, Holding, Running, Finished, Over, Node, keeps, learn, learn_bases, learn_versions, keep, without, has_life, RunsTenure, Uses, Open_uses, Held_uses, Running_uses, Idle, Act, Asks, Asks_tenure, Asks_again, Greets, Takes, Gives_back, Begins, Finishes, Gives_up, Sends_commit, Learns, Drops, Is_denied, Is_recalled, Is_recalled_running, Stores, Forgets, Asks_content, Sends_blob, Restarts, Stops, World}
-use Rattle.farm_base.proofs.CompareLaws.{digest_exact}
+use Rattle.names.proofs.CompareLaws.{digest_exact}
 use Rattle.protocol.proofs.Base.{slot_eq_is, in_one, some_is, none_some, nth-set_same, nth-set_other, nth_set_cases, nth-append, nth-push, nth_push_cases}
 use Rattle.protocol.proofs.Invariant.{Wanted, spent, WasAsked, Spent, ForTenure, Its, StateOk, WantsNow, for_tenure, HasTenure, AtHome, NodeOk, WasGiven, MessageOk, Inv, Ahead, ahead_refl}
 

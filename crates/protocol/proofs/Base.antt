@@ -8,10 +8,10 @@ use Rattle.std.specs.List.{list_any}
 pub use Rattle.lists.proofs.Places.{get_front}
 use Rattle.std.specs.Option.{option_eq}
 use Rattle.std.specs.Cmp.Lexicographic.{pointwise}
-use Rattle.farm_base.specs.Folders.{folder_eq, base_eq}
-use Rattle.farm_base.specs.Modes.{mode_index}
-use Rattle.farm_base.specs.declared.folder.Base.{Base}
-use Rattle.farm_base.proofs.NameLaws.{folder_exact}
+use Rattle.names.specs.Folders.{folder_eq, base_eq}
+use Rattle.names.specs.Modes.{mode_index}
+use Rattle.names.specs.declared.folder.Base.{Base}
+use Rattle.names.proofs.NameLaws.{folder_exact}
 use Rattle.lists.proofs.Places.{get_push_end, get-set_same, get-set_other}
 use Rattle.protocol.specs.Lists.{In, IsFrontOf, put, nth, set_nth}
 use Rattle.protocol.specs.Names.{Slot, slot_eq, digest_eq, Digest, FolderName, NodeId, Life, Ask, Ticket, Want}

@@ -19,7 +19,7 @@ use Rattle.protocol.specs.Ledger.{Limits}
 use Rattle.protocol.specs.World.{KeptAsk, Open, Holding, Running, Finished, Over, Node, keep, without, learn, learn_bases, learn_versions}
 use Rattle.protocol.specs.Nodes.{Place, Left, NodeWork, NodeAnswer, guard, at_home, is_tenure_of, in_use, HeldGrant, Sent, is_stored, all_stored, is_missing, is_base, held, running, held_or_running, finished, news_of, recallable, first, fetches_of, fetches, others, stored, opens, asked, asked_tenure, beginning, begun, gives_up, leaving, finishing, finished_with, aborting, aborted, again, all_again, forgotten, needs, resent, nothing, gives_back, granted, learned, dropped, denied, recalled, of_life, heard, brought, unless_spent}
 use Rattle.protocol.specs.Processes.{NodeCall, Receive, Ask_lease, Ask_tenure, Begin, Finish, Abort, Resend, Bring, Forget, node_decided, IsNodeOf, IsOfLeases}
-use Rattle.farm_base.proofs.CompareLaws.{digest_exact}
+use Rattle.names.proofs.CompareLaws.{digest_exact}
 use Rattle.protocol.proofs.Base.{some_is, true_false, in_append, in_left, in_right, from_map, none_some}
 
 -- ---- contents and versions

@@ -21,7 +21,7 @@ use Rattle.protocol.specs.Replay.{Event, Tenure, Deliver, Begin, Finish, Abort, 
 use Rattle.protocol.specs.Replay as replay
 use Rattle.protocol.specs.Meaning.{life_of, IsBase, Arrives, AsksAround, IsFetchFor, Repeats, Hello_again, Acquire_again, Commit_again, Fetch_again, Stored, Needs, Held_base, Running_base, Sent_news, IsNeeded, NodeMeans}
 use Rattle.protocol.specs.Reasons.{HoldsUnder, RunsUnder, NodeBecause}
-use Rattle.farm_base.proofs.CompareLaws.{digest_exact}
+use Rattle.names.proofs.CompareLaws.{digest_exact}
 use Rattle.protocol.proofs.Base.{in_filter, in_map, in_append, in_one, from_filter, from_map, node_is, cases_option, true_false, none_some, some_is, eqb_same, digest_eq_same, life_is, any_in, from_any, nth_in, in_left, in_right, ge_from}
 use Rattle.protocol.proofs.Following.{slots_eq_is, slots_eq_same}
 use Rattle.protocol.proofs.Moving.{found, held_is, running_is, either_is, finished_is, recallable_is, all_in, some_home, wants_folder_in, wants_folder_is, tenure_test, idle_from, stored_some, get_from}

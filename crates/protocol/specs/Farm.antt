@@ -1,6 +1,6 @@
 -- The limits of a farm.
-use Rattle.farm_base.specs.Contents.{empty_digest}
-use Rattle.farm_base.specs.declared.limits.TheConstants.{INSTANCES, GREATEST}
+use Rattle.names.specs.Contents.{empty_digest}
+use Rattle.names.specs.declared.limits.TheConstants.{INSTANCES, GREATEST}
 use Rattle.protocol.specs.Ledger.{Limits}
 
 -- the numbers of instances, tickets, lives and asks that a farm may have

@@ -1,17 +1,17 @@
 -- The names that the protocol is about, and tests of them that compute (docs/PROTOCOL.md, "Names").
 use Rattle.std.specs.Prelude.{Bool, true, false, not, ◌&&◌, ◌||◌, List, [], ◌∷◌, filter}
 use Rattle.std.specs.List.{list_any}
-use Rattle.farm_base.specs.Slots.{SlotParts}
-pub use Rattle.farm_base.specs.Slots.{IsInstance, slot_eq}
-pub use Rattle.farm_base.specs.Digests.{digest_eq}
-pub use Rattle.farm_base.specs.declared.folder.Mode.{Mode}
-pub use Rattle.farm_base.specs.declared.folder.Mode.TheVariants.{Shared, Private, Locked}
-pub use Rattle.farm_base.specs.declared.folder.FolderName.{FolderName}
-pub use Rattle.farm_base.specs.declared.digest.Digest.{Digest}
-pub use Rattle.farm_base.specs.declared.number.NodeId.{NodeId}
-pub use Rattle.farm_base.specs.declared.number.Life.{Life}
-pub use Rattle.farm_base.specs.declared.number.Ask.{Ask}
-pub use Rattle.farm_base.specs.declared.number.Ticket.{Ticket}
+use Rattle.names.specs.Slots.{SlotParts}
+pub use Rattle.names.specs.Slots.{IsInstance, slot_eq}
+pub use Rattle.names.specs.Digests.{digest_eq}
+pub use Rattle.names.specs.declared.folder.Mode.{Mode}
+pub use Rattle.names.specs.declared.folder.Mode.TheVariants.{Shared, Private, Locked}
+pub use Rattle.names.specs.declared.folder.FolderName.{FolderName}
+pub use Rattle.names.specs.declared.digest.Digest.{Digest}
+pub use Rattle.names.specs.declared.number.NodeId.{NodeId}
+pub use Rattle.names.specs.declared.number.Life.{Life}
+pub use Rattle.names.specs.declared.number.Ask.{Ask}
+pub use Rattle.names.specs.declared.number.Ticket.{Ticket}
 pub use Rattle.farm_base.specs.declared.want.Want.{Want}
 
 abbrev pub Slot : Type 0

@@ -2,7 +2,7 @@ ghost use Rattle.std.specs.Prelude.{◌≡◌, ◌<◌, Some, IfOk, length, slic
 ghost use Rattle.protowire.specs.BodyLists.{AreWithin, pieces};
 
 use super::shared_bodies::SharedBodies;
-use farm_base::Copied;
+use names::Copied;
 use std::alloc::{AllocError, Global};
 use std::marker::Model;
 use std::sync::Arc;

@@ -2,9 +2,9 @@
 use Rattle.std.specs.Prelude.{◌≡◌, ◌==◌, ℕ, ℤ, if◌then◌else◌, List, [], ◌∷◌, drop, length, Result, Ok, Err, Some, None, slice_get}
 use Rattle.std.specs.Borrow.{Bor}
 use Rattle.std.specs.List.{Contains}
-use Rattle.farm_base.specs.declared.digest.Digest.{Digest}
-use Rattle.farm_base.specs.declared.digest.Key.{Key}
-use Rattle.farm_base.specs.declared.number.NodeId.{NodeId}
+use Rattle.names.specs.declared.digest.Digest.{Digest}
+use Rattle.names.specs.declared.digest.Key.{Key}
+use Rattle.names.specs.declared.number.NodeId.{NodeId}
 use Rattle.executions.specs.declared.call.Call.{Call}
 use Rattle.executions.specs.Calls.{call}
 

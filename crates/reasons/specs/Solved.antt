@@ -1,8 +1,8 @@
 -- What the calls of a run say of a job's answer (this project's own).
 use Rattle.std.specs.Prelude.{⊤, ◌≡◌, ℕ, Bool, true, List, length, All, Some, slice_get}
 use Rattle.std.specs.List.{Contains}
-use Rattle.farm_base.specs.declared.digest.Digest.{Digest}
-use Rattle.farm_base.specs.declared.digest.Key.{Key}
+use Rattle.names.specs.declared.digest.Digest.{Digest}
+use Rattle.names.specs.declared.digest.Key.{Key}
 use Rattle.executions.specs.declared.call.Call.{Call}
 use Rattle.ordering.specs.Flags.{flag_at}
 use Rattle.vertices.specs.Edges.{list_at}

@@ -1,6 +1,6 @@
 //! Whether an answer is what the new calls gave.
 ghost use Rattle.std.specs.Prelude.{◌≡◌, ◌<◌, ℕ, true, length, Some, slice_get, All, Contains, IfOk, IfSome, IsTrue};
-ghost use Rattle.farm_base.specs.declared.digest.Key.{Key as SpecKey};
+ghost use Rattle.names.specs.declared.digest.Key.{Key as SpecKey};
 ghost use Rattle.ordering.specs.Flags.{flag_at};
 ghost use Rattle.vertices.specs.Edges.{list_at};
 ghost use Rattle.keytable.specs.Reaching.{IsNeeded};

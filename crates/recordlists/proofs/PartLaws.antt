@@ -5,9 +5,9 @@ use Rattle.std.specs.List.{AllByRecursion}
 use Rattle.std.specs.Option.{option_map}
 use Rattle.farm_base.specs.declared.lease.Lease.{Lease}
 use Rattle.farm_base.specs.declared.message.LineVersion.{LineVersion}
-use Rattle.farm_base.specs.declared.number.NodeId.{NodeId}
-use Rattle.farm_base.specs.declared.number.Ticket.{Ticket}
-use Rattle.farm_base.specs.Slots.{SlotParts, slot_cmp}
+use Rattle.names.specs.declared.number.NodeId.{NodeId}
+use Rattle.names.specs.declared.number.Ticket.{Ticket}
+use Rattle.names.specs.Slots.{SlotParts, slot_cmp}
 use Rattle.recordparts.specs.declared.layout.Layout.{Layout}
 use Rattle.recordparts.specs.declared.layout.Layout.TheVariants.{First, Second, Third}
 use Rattle.farm_base.specs.declared.lease.NodeLife.{NodeLife}
@@ -21,7 +21,7 @@ use Rattle.recordparts.specs.Fits.{IsNode, IsTypedSlot}
 use Rattle.recordlists.specs.EntryFits.{IsTicket, IsNodeLife, IsLease, IsVersion, IsSlotLine, IsTypedTicket, IsTypedNode, IsTypedLife, IsTypedLeased, IsTypedLease, IsTypedVersion, IsTypedLine}
 use Rattle.codec.proofs.Formats.{Any, IsFormat, if_passed, ◌and_then◌, begins, took, then_takes, then_again, last_again, refit}
 use Rattle.codec.proofs.Fronts.{wide32, wide64}
-use Rattle.farm_base.specs.Digests.{IsBytes}
+use Rattle.names.specs.Digests.{IsBytes}
 use Rattle.recordparts.proofs.Fields.{number_format, greatest, flag_format, digest_format}
 use Rattle.recordparts.proofs.SlotLaws.{slot_after_format}
 use Rattle.lists.proofs.Rising.{sorted-from_row, row-from_sorted}

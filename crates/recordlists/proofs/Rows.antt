@@ -8,8 +8,8 @@ use Rattle.std.proofs.lemmas.Bool.{lt-ltb, ltb-true}
 use Rattle.std.proofs.lemmas.Cmp.{nat_cmp_total}
 use Rattle.std.proofs.lemmas.Map.Keys.{IsStrictlyIncreasing-from_sorted, sorted_from_strictly_increasing}
 use Rattle.lists.proofs.Rising.{Row, Tests, less-from_cmp, less-from_is_lt, sorted-from_row, row-from_sorted}
-use Rattle.farm_base.specs.Slots.{slot_cmp}
-use Rattle.farm_base.proofs.CompareLaws.{slot_total}
+use Rattle.names.specs.Slots.{slot_cmp}
+use Rattle.names.proofs.CompareLaws.{slot_total}
 use Rattle.recordlists.specs.Entries.{is_above}
 use Rattle.recordparts.specs.Slots.{is_slot_above}
 

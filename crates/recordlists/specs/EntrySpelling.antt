@@ -4,9 +4,9 @@ use Rattle.std.specs.List.{flat_map}
 use Rattle.farm_base.specs.declared.lease.Lease.{Lease}
 use Rattle.farm_base.specs.declared.lease.NodeLife.{NodeLife}
 use Rattle.farm_base.specs.declared.message.LineVersion.{LineVersion}
-use Rattle.farm_base.specs.declared.number.NodeId.{NodeId}
-use Rattle.farm_base.specs.declared.number.Ticket.{Ticket}
-use Rattle.farm_base.specs.Slots.{SlotParts}
+use Rattle.names.specs.declared.number.NodeId.{NodeId}
+use Rattle.names.specs.declared.number.Ticket.{Ticket}
+use Rattle.names.specs.Slots.{SlotParts}
 use Rattle.recordparts.specs.Spelling.{number32, number64, flag_bytes, slot_bytes}
 use Rattle.versions.specs.declared.lines.SlotLine.{SlotLine}
 

@@ -3,9 +3,9 @@ use Rattle.std.specs.Prelude.{ℕ, nat_le, nat_lt, ◌==◌, Bool, true, false, 
 use Rattle.std.specs.List.{list_all, list_any}
 use Rattle.farm_base.specs.declared.lease.Lease.{Lease}
 use Rattle.farm_base.specs.declared.message.LineVersion.{LineVersion}
-use Rattle.farm_base.specs.declared.number.NodeId.{NodeId}
-use Rattle.farm_base.specs.Folders.{folder_eq}
-use Rattle.farm_base.specs.Slots.{SlotParts}
+use Rattle.names.specs.declared.number.NodeId.{NodeId}
+use Rattle.names.specs.Folders.{folder_eq}
+use Rattle.names.specs.Slots.{SlotParts}
 use Rattle.protocol.specs.Names.{is_private, is_shared}
 use Rattle.protocol.specs.Ledger.{has_slot}
 use Rattle.farm_base.specs.declared.lease.NodeLife.{NodeLife}

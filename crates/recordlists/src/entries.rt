@@ -1,7 +1,5 @@
 //! The entries of a record's lists.
-ghost use Rattle.std.specs.Prelude.{◌≡◌, ◌<◌, ◌^◌, ◌++◌, Option, None, option_copied, OnOk};
-ghost use Rattle.std.specs.Int.{w64};
-ghost use Rattle.std.specs.Option.{option_map};
+ghost use Rattle.std.specs.Prelude.{◌≡◌, ◌<◌, ◌^◌, ◌++◌, Option, None, OnOk};
 ghost use Rattle.recordparts.specs.Parts.{Gives};
 ghost use Rattle.recordlists.specs.Entries.{is_above, node_at, positive_at, node_after, ticket_after, tenure_at, ended_at, retired_node_at, node_life_at, retired_at, leased_at, lease_at, version_at, line_at};
 ghost use Rattle.recordparts.specs.Fits.{IsTypedSlot};

@@ -1,5 +1,5 @@
 //! What holds between leases, slots and lines.
-ghost use Rattle.std.specs.Prelude.{◌≡◌, not};
+ghost use Rattle.std.specs.Prelude.{◌≡◌};
 ghost use Rattle.std.specs.List.{list_all, list_any};
 ghost use Rattle.protocol.specs.Names.{is_private, is_shared};
 ghost use Rattle.protocol.specs.Ledger.{has_slot};

@@ -5,9 +5,9 @@ use Rattle.std.specs.Str.{IsUtf8, is_utf8}
 use Rattle.std.proofs.lemmas.Bool.{leb-true, le-leb, and_parts}
 use Rattle.codec.proofs.Formats.{Any, IsSpelled, IsFormat, if_then, if_passed, ◌and_then◌, one_byte, begins, then_takes, then_again, last_again, refit, front_format}
 use Rattle.codec.proofs.Fronts.{IsBytes-front, Takes, IsWide, wide32, wide64}
-use Rattle.farm_base.specs.Digests.{IsBytes}
-use Rattle.farm_base.specs.declared.digest.Digest.{Digest}
-use Rattle.farm_base.specs.declared.number.NodeId.{NodeId}
+use Rattle.names.specs.Digests.{IsBytes}
+use Rattle.names.specs.declared.digest.Digest.{Digest}
+use Rattle.names.specs.declared.number.NodeId.{NodeId}
 use Rattle.recordparts.specs.declared.refusal.Flaw.{Flaw}
 use Rattle.recordparts.specs.declared.refusal.RecordRefusal.TheVariants.{Truncated}
 use Rattle.recordparts.specs.Parts.{passed, front_at, number_at, flag_at, digest_at, text_of, id_at, home_of, home_at}

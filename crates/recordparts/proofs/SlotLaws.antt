@@ -2,11 +2,11 @@
 use Rattle.std.proofs.Common.{◌≡◌, ℕ, zero, suc, ◌^◌, ◌≤◌, Bool, true, false, ltb, List, [], ◌∷◌, ◌++◌, Option, Some, None, Ok, refl, subst, arith}
 use Rattle.std.specs.Int.{w64, to_be_bytes}
 use Rattle.std.proofs.lemmas.Bool.{lt-ltb, le-leb}
-use Rattle.farm_base.specs.declared.folder.Base.{Base}
-use Rattle.farm_base.specs.declared.folder.Mode.{Mode}
-use Rattle.farm_base.specs.declared.folder.Mode.TheVariants.{Shared, Private, Locked}
-use Rattle.farm_base.specs.Names.{IsOutput, IsBase}
-use Rattle.farm_base.specs.Slots.{SlotParts, IsInstance}
+use Rattle.names.specs.declared.folder.Base.{Base}
+use Rattle.names.specs.declared.folder.Mode.{Mode}
+use Rattle.names.specs.declared.folder.Mode.TheVariants.{Shared, Private, Locked}
+use Rattle.names.specs.Names.{IsOutput, IsBase}
+use Rattle.names.specs.Slots.{SlotParts, IsInstance}
 use Rattle.recordparts.specs.declared.layout.Layout.{Layout}
 use Rattle.recordparts.specs.declared.layout.Layout.TheVariants.{Third}
 use Rattle.recordparts.specs.Layouts.{has_shared}

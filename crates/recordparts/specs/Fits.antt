@@ -1,9 +1,9 @@
 -- What has a spelling: what a home and a slot have to meet to be written, and what the program's types guarantee besides.
 use Rattle.std.specs.Prelude.{◌<◌, ◌≤◌, ◌^◌, length, Option, Some, None}
-use Rattle.farm_base.specs.declared.limits.TheConstants.{NODES}
-use Rattle.farm_base.specs.declared.number.NodeId.{NodeId}
-use Rattle.farm_base.specs.Names.{IsSlot}
-use Rattle.farm_base.specs.Slots.{SlotParts}
+use Rattle.names.specs.declared.limits.TheConstants.{NODES}
+use Rattle.names.specs.declared.number.NodeId.{NodeId}
+use Rattle.names.specs.Names.{IsSlot}
+use Rattle.names.specs.Slots.{SlotParts}
 
 -- a node is 1 to 1,024
 abbrev pub IsNode : NodeId → Type 0

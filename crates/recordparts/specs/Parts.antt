@@ -3,9 +3,9 @@ use Rattle.std.specs.Prelude.{ℕ, zero, suc, nat_le, Bool, true, false, ◌&&�
 use Rattle.std.specs.Int.{Width, w32, w64, byte_len, from_be_bytes}
 use Rattle.std.specs.Str.{is_utf8}
 use Rattle.codec.specs.Steps.{◌>>=◌, GivesUnless, front_or}
-use Rattle.farm_base.specs.declared.digest.Digest.{Digest}
-use Rattle.farm_base.specs.declared.limits.TheConstants.{NODES}
-use Rattle.farm_base.specs.declared.number.NodeId.{NodeId}
+use Rattle.names.specs.declared.digest.Digest.{Digest}
+use Rattle.names.specs.declared.limits.TheConstants.{NODES}
+use Rattle.names.specs.declared.number.NodeId.{NodeId}
 use Rattle.recordparts.specs.declared.refusal.Flaw.{Flaw}
 use Rattle.recordparts.specs.declared.refusal.Flaw.TheVariants.{Range, Utf8}
 use Rattle.recordparts.specs.declared.refusal.RecordRefusal.{RecordRefusal}

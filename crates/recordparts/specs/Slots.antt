@@ -2,11 +2,11 @@
 use Rattle.std.specs.Prelude.{ℕ, zero, suc, nat_le, nat_lt, ◌^◌, ◌==◌, Bool, true, ◌&&◌, if◌then◌else◌, List, [], ◌∷◌, Option, Some, None, Result, Ok, Err}
 use Rattle.std.specs.Int.{w32, w64}
 use Rattle.std.specs.Ordering.{is_lt}
-use Rattle.farm_base.specs.declared.limits.TheConstants.{INSTANCES}
-use Rattle.farm_base.specs.declared.folder.Base.{Base}
-use Rattle.farm_base.specs.declared.folder.Mode.{Mode}
-use Rattle.farm_base.specs.declared.folder.Mode.TheVariants.{Shared, Private, Locked}
-use Rattle.farm_base.specs.Slots.{SlotParts, slot_cmp}
+use Rattle.names.specs.declared.limits.TheConstants.{INSTANCES}
+use Rattle.names.specs.declared.folder.Base.{Base}
+use Rattle.names.specs.declared.folder.Mode.{Mode}
+use Rattle.names.specs.declared.folder.Mode.TheVariants.{Shared, Private, Locked}
+use Rattle.names.specs.Slots.{SlotParts, slot_cmp}
 use Rattle.recordparts.specs.declared.layout.Layout.{Layout}
 use Rattle.recordparts.specs.declared.refusal.Flaw.TheVariants.{Range, Order}
 use Rattle.recordparts.specs.declared.refusal.RecordRefusal.{RecordRefusal}

@@ -1,11 +1,11 @@
 -- The one spelling of each part of a record. Numbers are big endian.
 use Rattle.std.specs.Prelude.{ℕ, Bool, true, false, List, [], ◌∷◌, ◌++◌, length, Option, Some, None}
 use Rattle.std.specs.Int.{w32, w64, to_be_bytes}
-use Rattle.farm_base.specs.declared.folder.Base.{Base}
-use Rattle.farm_base.specs.declared.folder.Mode.{Mode}
-use Rattle.farm_base.specs.declared.folder.Mode.TheVariants.{Shared, Private, Locked}
-use Rattle.farm_base.specs.declared.number.NodeId.{NodeId}
-use Rattle.farm_base.specs.Slots.{SlotParts}
+use Rattle.names.specs.declared.folder.Base.{Base}
+use Rattle.names.specs.declared.folder.Mode.{Mode}
+use Rattle.names.specs.declared.folder.Mode.TheVariants.{Shared, Private, Locked}
+use Rattle.names.specs.declared.number.NodeId.{NodeId}
+use Rattle.names.specs.Slots.{SlotParts}
 
 -- four bytes
 abbrev pub number32 : ℕ → List ℕ

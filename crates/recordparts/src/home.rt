@@ -5,7 +5,7 @@ ghost use Rattle.recordparts.specs.Spelling.{home_bytes};
 
 use super::part::take_u32;
 use super::refusal::RecordRefusal;
-use farm_base::{NODES, NodeId};
+use names::{NODES, NodeId};
 use std::alloc::AllocError;
 
 fn home_of(number: u32) -> Option<NodeId>

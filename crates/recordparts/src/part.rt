@@ -1,10 +1,9 @@
 //! The small parts of a record: numbers, flags, digests and ids.
-ghost use Rattle.std.specs.Prelude.{◌≡◌};
 ghost use Rattle.std.specs.Int.{w32, w64};
 ghost use Rattle.recordparts.specs.Parts.{Gives, front_at, number_at, flag_at, digest_at, text_of, id_at};
 
 use super::refusal::{Flaw, RecordRefusal};
-use farm_base::{Digest, Text};
+use names::{Digest, Text};
 use std::alloc::Global;
 
 /// The first `len` bytes, and what follows them.

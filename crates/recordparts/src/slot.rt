@@ -1,6 +1,6 @@
 //! Slots in a record.
 ghost use Rattle.std.specs.Prelude.{◌≡◌, ◌<◌, ◌^◌, ◌++◌, length, IsTrue, option_copied, OnOk};
-ghost use Rattle.farm_base.specs.Slots.{IsInstance};
+ghost use Rattle.names.specs.Slots.{IsInstance};
 ghost use Rattle.recordparts.specs.Parts.{Gives};
 ghost use Rattle.recordparts.specs.Slots.{mode_at, output_at, base_at, has_instance, slot_at, is_slot_above, slot_after};
 ghost use Rattle.recordparts.specs.Fits.{IsTypedSlot};
@@ -9,8 +9,8 @@ ghost use Rattle.recordparts.specs.Spelling.{mode_bytes, id_bytes, base_bytes, s
 use super::layout::Layout;
 use super::part::{take_digest, take_flag, take_id, take_u32, take_u64};
 use super::refusal::{Flaw, RecordRefusal};
-use farm_base::laws::is_slot;
-use farm_base::{Base, FolderName, INSTANCES, Index, Key, Mode, Slot};
+use names::laws::is_slot;
+use names::{Base, FolderName, INSTANCES, Index, Key, Mode, Slot};
 use std::alloc::{AllocError, Global};
 
 #[tactic(auto, unfolding(crate::specs::Slots::mode_at))]

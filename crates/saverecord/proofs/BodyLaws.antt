@@ -5,8 +5,8 @@ use Rattle.std.specs.List.Sorted.{IsStrictlySortedBy}
 use Rattle.std.proofs.lemmas.Bool.{eqb-true}
 use Rattle.std.proofs.lemmas.List.{append-nil, nil_from_length, map-id}
 use Rattle.farm_base.specs.declared.lease.Lease.{Lease}
-use Rattle.farm_base.specs.declared.number.NodeId.{NodeId}
-use Rattle.farm_base.specs.Slots.{slot_cmp}
+use Rattle.names.specs.declared.number.NodeId.{NodeId}
+use Rattle.names.specs.Slots.{slot_cmp}
 use Rattle.recordparts.specs.declared.layout.Layout.{Layout}
 use Rattle.recordparts.specs.declared.layout.Layout.TheVariants.{First, Second, Third}
 use Rattle.saverecord.specs.declared.record.Record.{Record}
@@ -23,7 +23,7 @@ use Rattle.recordlists.specs.EntryFits.{IsTypedNode, IsTypedList}
 use Rattle.saverecord.specs.Fits.{HasParts, IsTypedRecord}
 use Rattle.codec.proofs.Formats.{IsFormat, ◌and_then◌, begins, begins_assoc, took, then_takes, then_again, last_again}
 use Rattle.codec.proofs.Steps.{bind_ok}
-use Rattle.farm_base.specs.Digests.{IsBytes}
+use Rattle.names.specs.Digests.{IsBytes}
 use Rattle.recordparts.proofs.Fields.{passed_ok, any64, home_format}
 use Rattle.lists.proofs.Rising.{Row, sorted-from_row, row-from_sorted}
 use Rattle.recordlists.proofs.Rows.{slot_tests, numbers-from_row, row-from_numbers}

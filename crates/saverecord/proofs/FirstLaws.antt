@@ -7,7 +7,7 @@ use Rattle.std.specs.List.{list_any, list_all, AllByRecursion, insert}
 use Rattle.std.proofs.Math.Bool.{or-true}
 use Rattle.std.proofs.lemmas.Bool.{ltb-false, lt-ltb, and_parts, or_parts, eqb-false}
 use Rattle.farm_base.specs.declared.lease.Lease.{Lease}
-use Rattle.farm_base.specs.declared.number.NodeId.{NodeId}
+use Rattle.names.specs.declared.number.NodeId.{NodeId}
 use Rattle.protocol.specs.Names.{is_private}
 use Rattle.recordparts.specs.declared.layout.Layout.{Layout}
 use Rattle.recordparts.specs.declared.layout.Layout.TheVariants.{First, Second, Third}
@@ -26,7 +26,7 @@ use Rattle.recordparts.specs.Fits.{IsNode, IsHome}
 use Rattle.recordlists.specs.EntryFits.{IsNodeLife}
 use Rattle.saverecord.specs.Fits.{HasParts, IsRecord, IsTypedRecord}
 use Rattle.codec.proofs.Steps.{bind_ok}
-use Rattle.farm_base.specs.Digests.{IsBytes}
+use Rattle.names.specs.Digests.{IsBytes}
 use Rattle.recordparts.proofs.Fields.{passed_ok}
 use Rattle.lists.proofs.Rising.{Row}
 use Rattle.recordlists.proofs.Rows.{numbers-from_row, row-from_numbers}

@@ -11,10 +11,10 @@ use Rattle.std.proofs.lemmas.List.Kept.{AllPairs-filter, AllPairs-cons}
 use Rattle.std.proofs.lemmas.Map.Keys.{sorted_from_strictly_increasing}
 use Rattle.codec.specs.Steps.{◌>>=◌}
 use Rattle.codec.proofs.Steps.{bind_ok, ok_is, passed_ok as test_ok}
-use Rattle.farm_base.specs.Slots.{slot_cmp}
-use Rattle.farm_base.specs.Contents.{content_digest}
+use Rattle.names.specs.Slots.{slot_cmp}
+use Rattle.names.specs.Contents.{content_digest}
 use Rattle.farm_base.specs.declared.lease.NodeLife.{NodeLife}
-use Rattle.farm_base.specs.declared.limits.TheConstants.{NODES}
+use Rattle.names.specs.declared.limits.TheConstants.{NODES}
 use Rattle.holdings.specs.Leases.{IsBefore, IsOpen, Rises}
 use Rattle.holdings.specs.Lives.{AreLives}
 use Rattle.holdings.specs.Leases.{among}

@@ -7,7 +7,7 @@ use Rattle.std.specs.Option.{option_map}
 use Rattle.std.proofs.lemmas.Bool.{and_parts, eqb-true, leb-true}
 use Rattle.std.proofs.lemmas.List.Elements.{All-from_recursion}
 use Rattle.codec.specs.Steps.{◌>>=◌}
-use Rattle.farm_base.specs.Slots.{SlotParts, IsInstance}
+use Rattle.names.specs.Slots.{SlotParts, IsInstance}
 use Rattle.protocol.specs.Names.{Mode, Shared, Private, Locked}
 use Rattle.protocol.specs.Ledger.{Lease}
 use Rattle.recordparts.specs.declared.layout.Layout.{Layout}

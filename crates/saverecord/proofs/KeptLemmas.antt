@@ -12,10 +12,10 @@ use Rattle.std.proofs.lemmas.List.Elements.{All-map, recursion_from_All}
 use Rattle.std.proofs.lemmas.List.Filters.{length-filter_both}
 use Rattle.std.proofs.lemmas.Map.Keys.{sorted_head, sorted_tail, IsStrictlyIncreasing-from_sorted}
 use Rattle.farm_base.specs.declared.lease.NodeLife.{NodeLife}
-use Rattle.farm_base.specs.Folders.{folder_cmp, folder_eq}
-use Rattle.farm_base.specs.Slots.{SlotParts}
+use Rattle.names.specs.Folders.{folder_cmp, folder_eq}
+use Rattle.names.specs.Slots.{SlotParts}
 use Rattle.farm_base.specs.Wanted.{folders}
-use Rattle.farm_base.proofs.WantLemmas.{eq-by_cmp}
+use Rattle.names.proofs.FolderLemmas.{eq-by_cmp}
 use Rattle.holdings.specs.Leases.{Rises, IsOpen}
 use Rattle.holdings.specs.Leases.{among, takes}
 use Rattle.holdings.specs.Lives.{life_at, is_among}
@@ -26,7 +26,7 @@ use Rattle.protocol.specs.Machine.{LineVersion}
 use Rattle.protocol.specs.Ledger.{Lease, has_slot}
 use Rattle.protocol.specs.Lawful.{IsNumber, are_for_tenure, AreAsked, want_of, IsHolder, AreApart, AllApart}
 use Rattle.protocol.proofs.Base.{all_in, true_false, eqb_same, slot_eq_same, any_in, in_map, from_filter}
-use Rattle.farm_base.specs.declared.limits.TheConstants.{NODES}
+use Rattle.names.specs.declared.limits.TheConstants.{NODES}
 use Rattle.versions.specs.declared.lines.SlotLine.{SlotLine}
 use Rattle.versions.specs.Line.{IsLine}
 use Rattle.versions.specs.Lines.{line_at}

@@ -7,8 +7,8 @@ use Rattle.std.specs.List.Sorted.{IsStrictlySortedBy}
 use Rattle.std.proofs.lemmas.Bool.{eqb-true}
 use Rattle.std.proofs.lemmas.List.{append-nil, nil_from_length, map-id}
 use Rattle.farm_base.specs.declared.lease.Lease.{Lease}
-use Rattle.farm_base.specs.Digests.{IsBytes}
-use Rattle.farm_base.specs.Slots.{slot_cmp}
+use Rattle.names.specs.Digests.{IsBytes}
+use Rattle.names.specs.Slots.{slot_cmp}
 use Rattle.lists.proofs.Rising.{sorted-from_row, row-from_sorted}
 use Rattle.codec.proofs.Formats.{IsFormat, ◌and_then◌, begins, begins_assoc, took, then_takes, then_again, last_again}
 use Rattle.codec.proofs.Steps.{bind_ok, passed_ok as test_ok}

@@ -11,9 +11,9 @@ use Rattle.std.proofs.lemmas.List.Elements.{All-append, All-filter, All-head, Al
 use Rattle.std.proofs.lemmas.Map.Keys.{sorted_head, sorted_tail}
 use Rattle.codec.specs.Steps.{◌>>=◌}
 use Rattle.codec.proofs.Steps.{bind_ok, ok_is, passed_ok as test_ok}
-use Rattle.farm_base.specs.Slots.{slot_cmp}
-use Rattle.farm_base.specs.declared.limits.TheConstants.{NODES}
-use Rattle.farm_base.proofs.CompareLaws.{slot_eq-by_cmp}
+use Rattle.names.specs.Slots.{slot_cmp}
+use Rattle.names.specs.declared.limits.TheConstants.{NODES}
+use Rattle.names.proofs.CompareLaws.{slot_eq-by_cmp}
 use Rattle.holdings.specs.Leases.{IsOpen}
 use Rattle.protocol.specs.Farm.{farm_limits}
 use Rattle.protocol.specs.Lists.{In}

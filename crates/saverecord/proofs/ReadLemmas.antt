@@ -10,12 +10,12 @@ use Rattle.std.proofs.lemmas.List.{length-map}
 use Rattle.std.proofs.lemmas.List.Elements.{All-head, All-nil, All-tail}
 use Rattle.std.proofs.lemmas.Map.Keys.{sorted_from_strictly_increasing}
 use Rattle.farm_base.specs.declared.lease.NodeLife.{NodeLife}
-use Rattle.farm_base.specs.declared.limits.TheConstants.{NODES}
-use Rattle.farm_base.specs.Folders.{folder_cmp, folder_eq}
-use Rattle.farm_base.specs.Slots.{SlotParts, slot_cmp}
+use Rattle.names.specs.declared.limits.TheConstants.{NODES}
+use Rattle.names.specs.Folders.{folder_cmp, folder_eq}
+use Rattle.names.specs.Slots.{SlotParts, slot_cmp}
 use Rattle.farm_base.specs.Wanted.{folders}
-use Rattle.farm_base.proofs.CompareLaws.{folder_cmp-tie}
-use Rattle.farm_base.proofs.WantLemmas.{eq-by_cmp}
+use Rattle.names.proofs.CompareLaws.{folder_cmp-tie}
+use Rattle.names.proofs.FolderLemmas.{eq-by_cmp}
 use Rattle.holdings.specs.Leases.{Rises, IsOpen}
 use Rattle.holdings.specs.Leases.{among}
 use Rattle.holdings.specs.Lives.{life_at, is_among}

@@ -18,7 +18,7 @@ use Rattle.saverecord.specs.Spelling.{body_bytes, record_bytes}
 use Rattle.saverecord.specs.Fits.{IsRecord, IsTypedRecord}
 use Rattle.codec.proofs.Fronts.{IsBytes-take, IsBytes-drop}
 use Rattle.codec.proofs.Steps.{bind_ok, guard_ok, ok_is, passed_ok as test_ok}
-use Rattle.farm_base.specs.Digests.{IsBytes}
+use Rattle.names.specs.Digests.{IsBytes}
 use Rattle.recordparts.proofs.Fields.{passed_ok}
 use Rattle.saverecord.proofs.BodyLaws.{body_bytes_in, body_bytes-third, whole_takes, whole_again}
 

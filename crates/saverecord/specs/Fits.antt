@@ -2,7 +2,7 @@
 use Rattle.std.specs.Prelude.{◌≡◌, ◌<◌, ◌^◌, true, map}
 use Rattle.std.specs.List.{AllByRecursion}
 use Rattle.std.specs.List.Sorted.{IsStrictlyIncreasing, IsStrictlySortedBy}
-use Rattle.farm_base.specs.Slots.{slot_cmp}
+use Rattle.names.specs.Slots.{slot_cmp}
 use Rattle.recordparts.specs.Fits.{IsNode, IsHome, IsTypedSlot}
 use Rattle.recordlists.specs.EntryFits.{IsNodeLife, IsLease, IsSlotLine, IsTypedNode, IsTypedLife, IsTypedLease, IsTypedLine, IsTypedList}
 use Rattle.saverecord.specs.declared.record.Record.{Record}

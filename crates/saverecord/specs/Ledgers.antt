@@ -1,9 +1,9 @@
 -- The ledger that a record keeps (docs/PROOFS.md, "The record"). The rules are this project's own.
 use Rattle.std.specs.Prelude.{◌≡◌, ℕ, ◌≤◌, Bool, List, [], ◌∷◌, map, All, None, Result, Ok}
 use Rattle.std.specs.List.Sorted.{IsStrictlyIncreasing, IsStrictlySortedBy}
-use Rattle.farm_base.specs.declared.limits.TheConstants.{NODES}
-use Rattle.farm_base.specs.Digests.{IsBytes}
-use Rattle.farm_base.specs.Slots.{slot_cmp}
+use Rattle.names.specs.declared.limits.TheConstants.{NODES}
+use Rattle.names.specs.Digests.{IsBytes}
+use Rattle.names.specs.Slots.{slot_cmp}
 use Rattle.holdings.specs.Leases.{Rises, IsOpen}
 use Rattle.holdings.specs.Leases.{among}
 use Rattle.holdings.specs.Lives.{life_at, is_among}

@@ -6,8 +6,8 @@ use Rattle.std.specs.List.Sorted.{IsStrictlyIncreasing, IsStrictlySortedBy}
 use Rattle.codec.specs.Steps.{◌>>=◌}
 use Rattle.farm_base.specs.declared.lease.Lease.{Lease}
 use Rattle.farm_base.specs.declared.lease.NodeLife.{NodeLife}
-use Rattle.farm_base.specs.declared.limits.TheConstants.{NODES}
-use Rattle.farm_base.specs.Slots.{slot_cmp}
+use Rattle.names.specs.declared.limits.TheConstants.{NODES}
+use Rattle.names.specs.Slots.{slot_cmp}
 use Rattle.holdings.specs.Leases.{IsBefore, IsOpen, Rises}
 use Rattle.holdings.specs.Leases.{among}
 use Rattle.holdings.specs.Lives.{is_among, life_at}

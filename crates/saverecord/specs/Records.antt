@@ -3,7 +3,7 @@ use Rattle.std.specs.Prelude.{ℕ, suc, insert, ◌-◌, ◌==◌, ◌&&◌, nat
 use Rattle.std.specs.Cmp.Lexicographic.{pointwise}
 use Rattle.std.specs.List.{list_any}
 use Rattle.std.specs.Int.{w64}
-use Rattle.farm_base.specs.declared.number.NodeId.{NodeId}
+use Rattle.names.specs.declared.number.NodeId.{NodeId}
 use Rattle.sha2.specs.Sha256.{sha256}
 use Rattle.recordparts.specs.declared.layout.Layout.{Layout}
 use Rattle.recordparts.specs.declared.layout.Layout.TheVariants.{First, Second, Third}

@@ -6,7 +6,6 @@ ghost use Rattle.protocol.specs.Ledger.{reads, saves};
 ghost use Rattle.saverecord.specs.Ledgers.{IsKept, ledger_of};
 ghost use Rattle.saverecord.specs.Logs.{is_open, some_retired, fits, agreed, folded_ledger, IsReadable};
 ghost use Rattle.recordparts.specs.Parts.{Gives};
-ghost use Rattle.versions.specs.Line.{is_above_all};
 ghost use Rattle.versions.specs.Lines.{line_at};
 
 use super::record::Record;

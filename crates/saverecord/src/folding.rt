@@ -1,5 +1,5 @@
 //! Reading what is kept: a whole record, and what each entry after it changes.
-ghost use Rattle.std.specs.Prelude.{◌≡◌, ◌≤◌, All, AllPairs, IfOk, Ok};
+ghost use Rattle.std.specs.Prelude.{◌≡◌, ◌≤◌, ◌⊎◌, All, AllPairs, IfOk, IfErr, Ok, Err};
 ghost use Rattle.std.specs.List.{list_all};
 ghost use Rattle.holdings.specs.Leases.{IsBefore};
 ghost use Rattle.holdings.specs.Leases.{among};
@@ -245,7 +245,8 @@ impl Log {
 
     /// The whole record that holds the same as these texts, as `Record::write` writes it.
     pub fn fold(&self, alloc: Global) -> Result<Vec<u8>, RecordRefusal>
-        ensures { IfOk result (λ bytes. ledger_in (whole_alone bytes.items) ≡ ledger_in self.now) }
+        ensures same { IfOk result (λ bytes. ledger_in (whole_alone bytes.items) ≡ ledger_in self.now) }
+        ensures refused { IfErr result (λ e. (e ≡ RecordRefusal.OutOfMemory) ⊎ (ledger_in self.now ≡ Err e)) }
     {
         what_is_kept_is_a_record();
         let record = self.read(alloc)?;

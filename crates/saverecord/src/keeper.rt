@@ -1,7 +1,7 @@
 //! Who keeps the texts of a record.
-ghost use Rattle.std.specs.Prelude.{◌≡◌, ◌≢◌, ◌⊎◌, ◌≤◌, ℕ, Bool, List, [], Option, Err, IfOk, OnOk, OnErr, IsOk, ◌↔◌, Some, None};
+ghost use Rattle.std.specs.Prelude.{◌≡◌, ◌≢◌, ◌⊎◌, ◌≤◌, ℕ, Bool, Option, Err, IfOk, OnOk, OnErr, Some, None};
 ghost use Rattle.std.specs.Result.{is_ok, result_err};
-ghost use Rattle.saverecord.specs.Keepers.{HasFailed, saved, MemorySaves, MemoryLoads, MemoryGathers, MemorySyncs};
+ghost use Rattle.saverecord.specs.Keepers.{HasFailed, MemorySaves, MemoryLoads, MemoryGathers, MemorySyncs};
 ghost use Rattle.saverecord.specs.Texts.{Texts, whole_alone, with_text};
 
 use super::log::Log;

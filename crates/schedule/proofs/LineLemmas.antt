@@ -5,8 +5,8 @@ use Rattle.std.specs.List.Sorted.{IsStrictlySortedBy}
 use Rattle.std.specs.Ordering.{is_lt}
 use Rattle.std.proofs.lemmas.List.{get_or-map, length-map}
 use Rattle.std.proofs.lemmas.Map.Keys.{sorted_from_all_adjacent, Less-from_sorted}
-use Rattle.farm_base.specs.Slots.{slot_cmp}
-use Rattle.farm_base.proofs.CompareLaws.{slot_total}
+use Rattle.names.specs.Slots.{slot_cmp}
+use Rattle.names.proofs.CompareLaws.{slot_total}
 use Rattle.farm_base.proofs.WantLemmas.{less-from_is_lt, not_less}
 use Rattle.schedule.specs.Lines.{left_text, left_slots, IsLeft, Left}
 use Rattle.schedule.specs.Words.{SpellLefts}

@@ -7,11 +7,11 @@ use Rattle.std.specs.declared.cmp.Ordering.TheVariants.{Less, Equal, Greater}
 use Rattle.std.proofs.lemmas.List.Elements.{All-nil, All-cons, All-head, All-tail, All-weaker}
 use Rattle.std.proofs.lemmas.List.Sorted.{IsPermutation-refl, IsPermutation-cons, IsPermutation-middle, IsPermutation-trans, All-permutation}
 use Rattle.std.proofs.lemmas.Map.Keys.{sorted_head, sorted_tail, IsDistinct-head, IsDistinct-tail}
-use Rattle.farm_base.specs.declared.folder.FolderName.{FolderName}
+use Rattle.names.specs.declared.folder.FolderName.{FolderName}
 use Rattle.farm_base.specs.declared.want.Want.{Want}
-use Rattle.farm_base.specs.Folders.{folder_cmp, folder_eq}
+use Rattle.names.specs.Folders.{folder_cmp, folder_eq}
 use Rattle.farm_base.specs.Wanted.{folders}
-use Rattle.farm_base.proofs.WantLemmas.{eq-by_cmp, folder_total}
+use Rattle.names.proofs.FolderLemmas.{eq-by_cmp, folder_total}
 
 -- what holds of the folders of wants holds of each want's folder, and the other way round
 from_folders : (P : FolderName → Type 0) (ws : List Want) → AllByRecursion P (folders ws) → All (λ w. P w.folder) ws

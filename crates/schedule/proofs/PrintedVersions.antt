@@ -1,9 +1,9 @@
 -- The versions of a line from a place on.
 use Rattle.std.proofs.Common.{◌≡◌, ℕ, zero, suc, ◌+◌, List, [], ◌∷◌, ◌++◌, drop, Some, ap, ◌∙◌, sym, arith}
 use Rattle.std.specs.List.{flat_map, enumerate_from}
-use Rattle.farm_base.specs.declared.digest.Digest.{Digest}
+use Rattle.names.specs.declared.digest.Digest.{Digest}
 use Rattle.farm_base.specs.declared.message.LineVersion.{LineVersion}
-use Rattle.farm_base.specs.declared.number.Ticket.{Ticket}
+use Rattle.names.specs.declared.number.Ticket.{Ticket}
 use Rattle.versions.specs.Line.{ticket_in, digest_in}
 use Rattle.schedule.specs.Printing.{version_text}
 

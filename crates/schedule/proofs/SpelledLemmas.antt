@@ -7,8 +7,8 @@ use Rattle.std.proofs.lemmas.List.Elements.{All-nil, All-cons}
 use Rattle.std.proofs.lemmas.List.Sorted.{All-permutation, IsPermutation-sym}
 use Rattle.std.proofs.lemmas.List.Splits.{join_with_byte-slice_split}
 use Rattle.hex.specs.Hex.{encode_lower}
-use Rattle.farm_base.specs.declared.number.Ticket.{Ticket}
-use Rattle.farm_base.specs.Names.{folder_text, slot_text}
+use Rattle.names.specs.declared.number.Ticket.{Ticket}
+use Rattle.names.specs.Names.{folder_text, slot_text}
 use Rattle.events.specs.declared.answer.Kept.{Kept}
 use Rattle.events.specs.declared.answer.Kept.TheVariants.{Old, New}
 use Rattle.events.specs.declared.event.Event.{Event}

@@ -1,6 +1,6 @@
 -- No two values have the same text.
 use Rattle.std.proofs.Common.{◌≡◌, refl}
-use Rattle.farm_base.proofs.TextLemmas.{encode-lacks, encode-injective}
+use Rattle.names.proofs.TextLemmas.{encode-lacks, encode-injective}
 use Rattle.schedule.specs.Lines.{Left, IsLeft, left_text}
 use Rattle.words.proofs.Spelling.{slot_same}
 

@@ -5,10 +5,10 @@ use Rattle.std.specs.Str.{bytes_eq}
 use Rattle.std.specs.Str.Parse.{AllDigits}
 use Rattle.std.proofs.lemmas.Fmt.{decimal_injective}
 use Rattle.std.proofs.lemmas.Str.Parse.{digit_at}
-use Rattle.farm_base.specs.declared.number.NodeId.{NodeId}
-use Rattle.farm_base.specs.declared.number.Ticket.{Ticket}
-use Rattle.farm_base.proofs.NameLaws.{folder_text-injective, slot_text-injective}
-use Rattle.farm_base.proofs.TextLemmas.{encode-injective}
+use Rattle.names.specs.declared.number.NodeId.{NodeId}
+use Rattle.names.specs.declared.number.Ticket.{Ticket}
+use Rattle.names.proofs.NameLaws.{folder_text-injective, slot_text-injective}
+use Rattle.names.proofs.TextLemmas.{encode-injective}
 use Rattle.events.specs.declared.answer.Kept.{Kept}
 use Rattle.events.specs.declared.answer.Kept.TheVariants.{Old, New}
 use Rattle.events.specs.declared.event.Event.{Event}

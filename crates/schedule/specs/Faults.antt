@@ -4,8 +4,8 @@ use Rattle.std.specs.List.{All, IsDistinct}
 use Rattle.std.specs.List.Sorted.{IsStrictlySortedBy}
 use Rattle.std.specs.Str.{IsUtf8}
 use Rattle.farm_base.specs.declared.want.Want.{Want}
-use Rattle.farm_base.specs.Folders.{folder_eq}
-use Rattle.farm_base.specs.Slots.{slot_cmp}
+use Rattle.names.specs.Folders.{folder_eq}
+use Rattle.names.specs.Slots.{slot_cmp}
 use Rattle.farm_base.specs.Wanted.{folders}
 use Rattle.events.specs.declared.event.Event.{Event}
 use Rattle.words.specs.Words.{words, want_text, IsWant}

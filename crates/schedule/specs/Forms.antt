@@ -1,10 +1,10 @@
 -- How the line of each event is written: what the words behind its verb stand for.
 use Rattle.std.specs.Prelude.{◌≡◌, ◌⊎◌, ℕ, ◌<◌, ◌≤◌, ◌^◌, List, [], ◌∷◌, Option, Some, None, map, length, codes, decimal, slice_index_or}
 use Rattle.hex.specs.Hex.{IsBytes, encode_lower}
-use Rattle.farm_base.specs.Digests.{IsDigest}
-use Rattle.farm_base.specs.declared.folder.FolderName.{FolderName}
-use Rattle.farm_base.specs.declared.folder.Mode.TheVariants.{Shared}
-use Rattle.farm_base.specs.Names.{folder_text, slot_text, IsName, IsSlot}
+use Rattle.names.specs.Digests.{IsDigest}
+use Rattle.names.specs.declared.folder.FolderName.{FolderName}
+use Rattle.names.specs.declared.folder.Mode.TheVariants.{Shared}
+use Rattle.names.specs.Names.{folder_text, slot_text, IsName, IsSlot}
 use Rattle.words.specs.Words.{words, node_text, ticket_text, digits_text, want_text, IsNode, IsTicket, IsWant}
 use Rattle.schedule.specs.declared.verb.Verb.{Verb}
 use Rattle.schedule.specs.declared.verb.Verb.TheVariants.{Ask, Tenure, Deliver, Begin, Finish, Abort, Resend, Restart, Forge, Forget, Nudge, Withdraw, Prune, Retire, Fail}

@@ -2,8 +2,8 @@
 use Rattle.std.specs.Prelude.{◌≡◌, ◌||◌, ◌&&◌, ℕ, Bool, if◌then◌else◌, List, ◌∷◌, ◌++◌, Option, Some, None, nat_le}
 use Rattle.std.specs.Char.{is_ascii_digit}
 use Rattle.std.specs.List.{list_all}
-use Rattle.farm_base.specs.Decimals.{Lacks}
-use Rattle.farm_base.specs.Names.{folder_text, IsName}
+use Rattle.names.specs.Decimals.{Lacks}
+use Rattle.names.specs.Names.{folder_text, IsName}
 use Rattle.schedule.specs.declared.fault.WordFault.{WordFault}
 use Rattle.schedule.specs.declared.fault.WordFault.TheVariants.{NoNode, NoMessage, NoTicket, NoFolder, NotShared, NoSlot, NoInstance, NoLeft, NoDigits, OddDigits, NoDigest, NotKept}
 use Rattle.schedule.specs.declared.verb.Wanted.{Wanted}

@@ -4,11 +4,11 @@ use Rattle.std.specs.List.{All, join_with_byte}
 use Rattle.std.specs.List.Sorted.{IsStrictlySortedBy}
 use Rattle.hex.specs.Hex.{IsBytes, encode_lower}
 pub use Rattle.protocol.specs.Nodes.{Left}
-use Rattle.farm_base.specs.Digests.{IsDigest}
-use Rattle.farm_base.specs.declared.folder.Mode.TheVariants.{Shared}
+use Rattle.names.specs.Digests.{IsDigest}
+use Rattle.names.specs.declared.folder.Mode.TheVariants.{Shared}
 use Rattle.farm_base.specs.declared.want.Want.{Want}
-use Rattle.farm_base.specs.Names.{folder_text, slot_text, IsName, IsSlot}
-use Rattle.farm_base.specs.Slots.{SlotParts, slot_cmp}
+use Rattle.names.specs.Names.{folder_text, slot_text, IsName, IsSlot}
+use Rattle.names.specs.Slots.{SlotParts, slot_cmp}
 use Rattle.words.specs.Words.{node_text, ticket_text, digits_text, want_text, slot_with, IsNode, IsTicket, AreWants}
 use Rattle.events.specs.declared.answer.Kept.{Kept}
 use Rattle.events.specs.declared.answer.Kept.TheVariants.{Old, New}

@@ -3,7 +3,7 @@ use Rattle.std.specs.Prelude.{ℕ, List, ◌++◌, codes, decimal}
 use Rattle.std.specs.List.{flat_map}
 use Rattle.farm_base.specs.declared.message.Grant.{Grant}
 use Rattle.farm_base.specs.declared.message.GrantedSlot.{GrantedSlot}
-use Rattle.farm_base.specs.Names.{slot_text}
+use Rattle.names.specs.Names.{slot_text}
 use Rattle.words.specs.Words.{why_text}
 use Rattle.events.specs.declared.answer.CoordNote.{CoordNote}
 use Rattle.events.specs.declared.answer.CoordNote.TheVariants as coord

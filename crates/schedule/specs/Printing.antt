@@ -3,8 +3,8 @@ use Rattle.std.specs.Prelude.{ℕ, ◌+◌, ◌-◌, nat_eq, if◌then◌else◌
 use Rattle.std.specs.List.{flat_map, enumerate_from}
 use Rattle.hex.specs.Hex.{encode_lower}
 use Rattle.farm_base.specs.declared.message.LineVersion.{LineVersion}
-use Rattle.farm_base.specs.Names.{slot_text}
-use Rattle.farm_base.specs.Slots.{SlotParts}
+use Rattle.names.specs.Names.{slot_text}
+use Rattle.names.specs.Slots.{SlotParts}
 use Rattle.events.specs.declared.answer.Outcome.{Outcome}
 use Rattle.events.specs.declared.answer.EventRefusal.{EventRefusal}
 use Rattle.schedule.specs.Notes.{note_text}

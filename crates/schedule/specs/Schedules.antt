@@ -1,7 +1,7 @@
 -- What the text of a schedule says: a farm's setup and its events, or the first fault from the top.
 use Rattle.std.specs.Prelude.{◌≡◌, ◌≢◌, ℕ, ◌+◌, ◌*◌, ◌^◌, ◌<◌, ◌≤◌, ◌==◌, Bool, true, false, List, [], ◌∷◌, ◌++◌, length, filter, codes, decimal}
 use Rattle.std.specs.List.{AllZip, slice_split}
-pub use Rattle.farm_base.specs.declared.limits.TheConstants.{EVENTS, NODES}
+pub use Rattle.names.specs.declared.limits.TheConstants.{EVENTS, NODES}
 use Rattle.events.specs.declared.event.Event.{Event}
 use Rattle.schedule.specs.declared.setup.Setup.{Setup}
 use Rattle.schedule.specs.declared.refusal.ScheduleRefusal.{ScheduleRefusal}

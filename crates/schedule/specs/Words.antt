@@ -3,15 +3,15 @@ use Rattle.std.specs.Prelude.{◌≡◌, ◌⊎◌, ℕ, ◌<◌, ◌^◌, List,
 use Rattle.std.specs.List.{All}
 use Rattle.std.specs.List.Sorted.{IsStrictlySortedBy}
 use Rattle.hex.specs.Hex.{IsBytes, encode_lower}
-use Rattle.farm_base.specs.Digests.{IsDigest}
-use Rattle.farm_base.specs.declared.digest.Digest.{Digest}
-use Rattle.farm_base.specs.declared.folder.FolderName.{FolderName}
-use Rattle.farm_base.specs.declared.folder.Mode.TheVariants.{Shared}
-use Rattle.farm_base.specs.declared.number.NodeId.{NodeId}
-use Rattle.farm_base.specs.declared.number.Ticket.{Ticket}
+use Rattle.names.specs.Digests.{IsDigest}
+use Rattle.names.specs.declared.digest.Digest.{Digest}
+use Rattle.names.specs.declared.folder.FolderName.{FolderName}
+use Rattle.names.specs.declared.folder.Mode.TheVariants.{Shared}
+use Rattle.names.specs.declared.number.NodeId.{NodeId}
+use Rattle.names.specs.declared.number.Ticket.{Ticket}
 use Rattle.farm_base.specs.declared.want.Want.{Want}
-use Rattle.farm_base.specs.Names.{folder_text, slot_text, IsName, IsSlot}
-use Rattle.farm_base.specs.Slots.{SlotParts, slot_cmp}
+use Rattle.names.specs.Names.{folder_text, slot_text, IsName, IsSlot}
+use Rattle.names.specs.Slots.{SlotParts, slot_cmp}
 use Rattle.events.specs.declared.answer.Kept.{Kept}
 use Rattle.events.specs.declared.event.Event.{Event}
 use Rattle.events.specs.declared.event.Event.TheVariants as event

@@ -2,7 +2,7 @@
 ghost use Rattle.std.specs.Prelude.{◌≡◌, ◌≢◌, List, map, IfOk};
 ghost use Rattle.std.specs.List.{All, IsAllAdjacentAnswer};
 ghost use Rattle.std.specs.Ordering.{is_lt};
-ghost use Rattle.farm_base.specs.Slots.{slot_cmp};
+ghost use Rattle.names.specs.Slots.{slot_cmp};
 ghost use Rattle.events.specs.declared.event.Event.{Event};
 ghost use Rattle.words.specs.Words.{texts, words};
 ghost use Rattle.schedule.specs.Lines.{left_text, IsLeft, Left, IsSpelled};

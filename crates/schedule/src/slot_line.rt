@@ -1,7 +1,6 @@
 ghost use Rattle.std.specs.Prelude.{◌≡◌, IfOk, OnOk, ◌++◌};
 ghost use Rattle.std.specs.List.{flat_map, enumerate_from};
 ghost use Rattle.std.specs.String.{string_bytes};
-ghost use Rattle.farm_base.specs.declared.message.LineVersion.{LineVersion};
 ghost use Rattle.schedule.specs.Printing.{version_text, line_text};
 
 use farm_base::{Digest, Slot, Ticket};

@@ -4,8 +4,8 @@
 ghost use Rattle.std.specs.Prelude.{⊤};
 
 use executions::{Call, ExecOutcome, ExecTask, Executor};
-use farm_base::{Copied, Digest, FolderName, Items, Key, Text};
 use folders::Edit;
+use names::{Copied, Digest, FolderName, Items, Key, Text};
 use opsproto::{ExecOp, Mount};
 use sha2::Sha256;
 use std::alloc::{AllocError, Global};

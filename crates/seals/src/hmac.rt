@@ -1,12 +1,12 @@
 //! HMAC-SHA256, and the key of a farm.
-ghost use Rattle.std.specs.Prelude.{◌≡◌, ◌≢◌, ◌↔◌, ◌<◌, ◌≤◌, ◌-◌, ◌++◌, ℕ, List, length, replicate, IfOk, IsErrOf};
+ghost use Rattle.std.specs.Prelude.{◌≡◌, ◌↔◌, ◌<◌, ◌≤◌, ◌-◌, ◌++◌, ℕ, List, length, replicate, IfOk, IsErrOf};
 ghost use Rattle.sha2.specs.Hashers.{Holds256};
 ghost use Rattle.sha2.specs.Sha256.{sha256};
 ghost use Rattle.seals.specs.Hashers.{HasTaken};
 ghost use Rattle.seals.specs.Macs.{key_block, block_xor, hmac_sha256, without_end};
 
 use super::refusal::KeyRefusal;
-use farm_base::Digest;
+use names::Digest;
 use sha2::Sha256;
 use std::alloc::Global;
 use std::marker::Model;

@@ -6,7 +6,7 @@ ghost use Rattle.seals.specs.Macs.{hmac_sha256};
 ghost use Rattle.seals.specs.Seals.{with_mac};
 
 use super::hmac::FarmKey;
-use farm_base::Key;
+use names::Key;
 use std::alloc::{AllocError, Global};
 
 /// How many bytes stand behind the text: a space and the digits of the MAC.

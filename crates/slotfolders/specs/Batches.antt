@@ -1,8 +1,8 @@
 -- The batches of edits of SHARED folders (this project's own).
 use Rattle.std.specs.Prelude.{Bool, ◌==◌, ◌&&◌, List, if◌then◌else◌}
-use Rattle.farm_base.specs.declared.folder.FolderName.{FolderName}
-use Rattle.farm_base.specs.declared.number.Ticket.{Ticket}
-use Rattle.farm_base.specs.Folders.{folder_eq}
+use Rattle.names.specs.declared.folder.FolderName.{FolderName}
+use Rattle.names.specs.declared.number.Ticket.{Ticket}
+use Rattle.names.specs.Folders.{folder_eq}
 use Rattle.folders.specs.declared.edit.Edit.{Edit}
 use Rattle.folders.specs.Edits.{edited_all}
 use Rattle.folders.specs.Files.{Files}

@@ -3,12 +3,12 @@ use Rattle.std.specs.Prelude.{nat_le, Bool, true, ◌&&◌, not, List, [], ◌�
 use Rattle.std.specs.List.{list_all, list_any}
 use Rattle.std.specs.Map.{lookup}
 use Rattle.std.specs.Option.{unwrap_or}
-use Rattle.farm_base.specs.Slots.{SlotParts}
-use Rattle.farm_base.specs.declared.folder.FolderName.{FolderName}
+use Rattle.names.specs.Slots.{SlotParts}
+use Rattle.names.specs.declared.folder.FolderName.{FolderName}
 use Rattle.farm_base.specs.declared.message.GrantedSlot.{GrantedSlot}
 use Rattle.farm_base.specs.declared.left.Left.{Left}
 use Rattle.farm_base.specs.declared.want.Want.{Want}
-use Rattle.farm_base.specs.Folders.{folder_eq}
+use Rattle.names.specs.Folders.{folder_eq}
 use Rattle.protocol.specs.Names.{is_shared}
 use Rattle.folders.specs.declared.edit.Edit.{Edit}
 use Rattle.folders.specs.Edits.{edited_all}

@@ -3,10 +3,10 @@ use Rattle.std.specs.Prelude.{⊤, ◌≡◌, ℕ, List, [], ◌∷◌, if◌the
 use Rattle.std.specs.Map.{lookup}
 use Rattle.std.specs.Option.{unwrap_or}
 use Rattle.codec.specs.Steps.{◌>>=◌}
-use Rattle.farm_base.specs.Slots.{SlotParts}
-use Rattle.farm_base.specs.declared.folder.FolderName.{FolderName}
+use Rattle.names.specs.Slots.{SlotParts}
+use Rattle.names.specs.declared.folder.FolderName.{FolderName}
 use Rattle.farm_base.specs.declared.message.GrantedSlot.{GrantedSlot}
-use Rattle.farm_base.specs.Folders.{folder_eq}
+use Rattle.names.specs.Folders.{folder_eq}
 use Rattle.protocol.specs.Names.{is_shared}
 use Rattle.folders.specs.declared.refusal.FolderRefusal.{FolderRefusal}
 use Rattle.folders.specs.Files.{Files}

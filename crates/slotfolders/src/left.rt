@@ -1,6 +1,6 @@
 //! What edits leave in the slots of a lease.
 ghost use Rattle.std.specs.Prelude.{◌≡◌, true, false, IfOk, Err};
-ghost use Rattle.farm_base.specs.Slots.{SlotParts};
+ghost use Rattle.names.specs.Slots.{SlotParts};
 ghost use Rattle.std.specs.List.{list_all, list_any};
 ghost use Rattle.folders.specs.Edits.{edited_all};
 ghost use Rattle.slotfolders.specs.Left.{may_write, is_of, differ, are_allowed, is_small, changed, can_be_made, is_left, left_in, lefts};

@@ -4,7 +4,7 @@ ghost use Rattle.std.specs.List.{zip};
 ghost use Rattle.std.specs.Map.{lookup};
 ghost use Rattle.std.specs.Option.{option_copied};
 ghost use Rattle.std.specs.Result.{result_map_both};
-ghost use Rattle.farm_base.specs.Folders.{folder_eq};
+ghost use Rattle.names.specs.Folders.{folder_eq};
 ghost use Rattle.slotfolders.specs.Seen.{read_one, read_all, folder_seen, IsOpened};
 
 use super::refusal::RunRefusal;

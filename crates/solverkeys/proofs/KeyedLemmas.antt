@@ -3,9 +3,9 @@ use Rattle.std.proofs.Common.{◌≡◌, ℕ, ◌+◌, ◌<◌, inl, inr, Bool, 
 use Rattle.std.specs.List.{Contains}
 use Rattle.std.proofs.lemmas.Bool.{cases_eq, cases_Bool}
 use Rattle.std.proofs.lemmas.Option.{slice_get_within}
-use Rattle.farm_base.specs.declared.digest.Digest.{Digest}
-use Rattle.farm_base.specs.declared.digest.Key.{Key}
-use Rattle.farm_base.proofs.CompareLaws.{digest_exact, digest_eq-itself}
+use Rattle.names.specs.declared.digest.Digest.{Digest}
+use Rattle.names.specs.declared.digest.Key.{Key}
+use Rattle.names.proofs.CompareLaws.{digest_exact, digest_eq-itself}
 use Rattle.lists.proofs.Places.{some_is, at_Contains}
 use Rattle.vertices.specs.Loading.{GraphParts}
 use Rattle.solverkeys.specs.GraphKeys.{AreKeys}

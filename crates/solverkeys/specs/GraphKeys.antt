@@ -1,7 +1,7 @@
 -- The solver keys of the vertices of a graph (this project's own).
 use Rattle.std.specs.Prelude.{◌≡◌, ℕ, ◌<◌, List, [], ◌∷◌, length, Some, slice_get}
 use Rattle.std.specs.List.{AllZip}
-use Rattle.farm_base.specs.declared.digest.Key.{Key}
+use Rattle.names.specs.declared.digest.Key.{Key}
 use Rattle.vertices.specs.declared.vertex.Vertex.{Vertex}
 use Rattle.vertices.specs.Edges.{list_at}
 use Rattle.vertices.specs.Loading.{GraphParts}

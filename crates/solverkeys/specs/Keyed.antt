@@ -1,7 +1,7 @@
 -- A graph with its keys, and the first vertex of each key (this project's own).
 use Rattle.std.specs.Prelude.{◌≡◌, ◌<◌, ℕ, Bool, List, Option, Some, None, slice_get}
-use Rattle.farm_base.specs.declared.digest.Key.{Key}
-use Rattle.farm_base.specs.Digests.{digest_eq}
+use Rattle.names.specs.declared.digest.Key.{Key}
+use Rattle.names.specs.Digests.{digest_eq}
 use Rattle.vertices.specs.Loading.{GraphParts}
 
 -- a graph, and a key for each of its vertices, by its number

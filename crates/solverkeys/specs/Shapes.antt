@@ -1,7 +1,7 @@
 -- The shape of a vertex: the tree that its key stands for.
 use Rattle.std.specs.Prelude.{◌≡◌, ◌≢◌, ℕ, ◌<◌, ◌^◌, ◌⊎◌, List, [], ◌∷◌}
 use Rattle.sha2.specs.Sha256.{sha256}
-use Rattle.farm_base.specs.declared.digest.Key.{Key}
+use Rattle.names.specs.declared.digest.Key.{Key}
 use Rattle.solverkeys.specs.Keys.{key_message, solver_key}
 
 mutual

@@ -3,7 +3,7 @@ ghost use Rattle.vertices.specs.Loading.{IsGraph};
 ghost use Rattle.solverkeys.specs.GraphKeys.{AreKeys, TakesKeys, FollowsKeys};
 
 use super::key::key_from;
-use farm_base::{Digest, Key};
+use names::{Digest, Key};
 use std::alloc::{AllocError, Global};
 use vertices::Graph;
 

@@ -2,7 +2,7 @@ ghost use Rattle.std.specs.Prelude.{◌≡◌, ℕ, List};
 ghost use Rattle.sha2.specs.Sha256.{sha256};
 ghost use Rattle.solverkeys.specs.Keys.{solver_key};
 
-use farm_base::{Digest, Key};
+use names::{Digest, Key};
 use sha2::{Digest as Hasher, Sha256};
 
 /// The byte that begins the message of a key.

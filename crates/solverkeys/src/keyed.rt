@@ -2,7 +2,7 @@ ghost use Rattle.std.specs.Prelude.{◌≡◌, ◌<◌, ◌+◌, length, IfOk, I
 ghost use Rattle.std.specs.HashMap.{get};
 
 use super::graph::keys;
-use farm_base::Key;
+use names::Key;
 use std::alloc::{AllocError, Global};
 use std::collections::HashMap;
 use std::marker::Model;

@@ -5,10 +5,10 @@ use Rattle.std.specs.Vec.Iter.{into_iter_items, into_iter_steps}
 use Rattle.std.specs.declared.vec.IntoIter.{IntoIter}
 use Rattle.std.proofs.lemmas.List.Elements.{filter-append}
 use Rattle.std.proofs.lemmas.List.{map-append}
-use Rattle.farm_base.specs.declared.folder.FolderName.{FolderName}
-use Rattle.farm_base.specs.declared.folder.Mode.{Mode}
-use Rattle.farm_base.specs.declared.folder.Mode.TheVariants.{Shared, Private, Locked}
-use Rattle.farm_base.specs.declared.number.Ticket.{Ticket}
+use Rattle.names.specs.declared.folder.FolderName.{FolderName}
+use Rattle.names.specs.declared.folder.Mode.{Mode}
+use Rattle.names.specs.declared.folder.Mode.TheVariants.{Shared, Private, Locked}
+use Rattle.names.specs.declared.number.Ticket.{Ticket}
 use Rattle.protocol.specs.Names.{is_shared}
 use Rattle.folders.specs.declared.edit.Edit.{Edit}
 use Rattle.executions.specs.declared.refusal.SharedRefusal.{SharedRefusal}

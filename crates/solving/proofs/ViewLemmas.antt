@@ -3,7 +3,7 @@ use Rattle.std.proofs.Common.{arith, ◌≡◌, ◌++◌, ◌∷◌, ◌<◌, Li
 use Rattle.std.specs.List.{Contains}
 use Rattle.std.proofs.lemmas.List.{map-append}
 use Rattle.std.proofs.lemmas.List.Elements.{Contains-append_left, Contains-append_right}
-use Rattle.farm_base.specs.declared.folder.FolderName.{FolderName}
+use Rattle.names.specs.declared.folder.FolderName.{FolderName}
 use Rattle.farm_base.specs.declared.want.Want.{Want}
 use Rattle.folders.specs.Files.{Files}
 use Rattle.solving.specs.Places.{IsSeenIn}

@@ -1,7 +1,7 @@
 -- What a job came to, once a run is over (this project's own).
 use Rattle.std.specs.Prelude.{◌≡◌, ℕ, List, Result, Ok, Err}
-use Rattle.farm_base.specs.declared.digest.Key.{Key}
-use Rattle.farm_base.specs.declared.digest.Digest.{Digest}
+use Rattle.names.specs.declared.digest.Key.{Key}
+use Rattle.names.specs.declared.digest.Digest.{Digest}
 use Rattle.keytable.specs.declared.entry.Entry.{Entry}
 use Rattle.keytable.specs.Failing.{Fails, IsDone, HasOutput, LacksOutput}
 use Rattle.jobs.specs.declared.answer.Answer.{Answer}

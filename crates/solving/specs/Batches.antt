@@ -1,7 +1,7 @@
 -- What an execution changes in the SHARED folders that are open (this project's own).
 use Rattle.std.specs.Prelude.{◌≡◌, true, Err, List, ◌∷◌, map, filter, ◌++◌}
-use Rattle.farm_base.specs.declared.digest.Key.{Key}
-use Rattle.farm_base.specs.declared.number.Ticket.{Ticket}
+use Rattle.names.specs.declared.digest.Key.{Key}
+use Rattle.names.specs.declared.number.Ticket.{Ticket}
 use Rattle.protocol.specs.Names.{is_shared}
 use Rattle.slotfolders.specs.declared.batch.Batch.{Batch}
 use Rattle.executions.specs.declared.refusal.SharedRefusal.{SharedRefusal}

@@ -1,6 +1,6 @@
 -- The faults of a run (this project's own).
 use Rattle.std.specs.Prelude.{Bool, true, false}
-use Rattle.farm_base.specs.declared.digest.Key.{Key}
+use Rattle.names.specs.declared.digest.Key.{Key}
 use Rattle.events.specs.declared.answer.EventRefusal.{EventRefusal}
 use Rattle.events.specs.declared.answer.EventRefusal.TheVariants as event
 use Rattle.farmhistory.specs.declared.refusal.BoardRefusal.{BoardRefusal}

@@ -1,9 +1,9 @@
 -- The vertex of a task, and what its execution is given (this project's own).
 use Rattle.std.specs.Prelude.{◌≡◌, ◌<◌, List, length, map, Some, slice_get}
 use Rattle.std.specs.List.{Contains}
-use Rattle.farm_base.specs.declared.digest.Key.{Key}
-use Rattle.farm_base.specs.declared.folder.FolderName.{FolderName}
-use Rattle.farm_base.specs.declared.folder.Mode.TheVariants.{Shared}
+use Rattle.names.specs.declared.digest.Key.{Key}
+use Rattle.names.specs.declared.folder.FolderName.{FolderName}
+use Rattle.names.specs.declared.folder.Mode.TheVariants.{Shared}
 use Rattle.farm_base.specs.declared.want.Want.{Want}
 use Rattle.folders.specs.Files.{Files}
 use Rattle.vertices.specs.Edges.{list_at}

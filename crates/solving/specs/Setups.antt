@@ -1,8 +1,8 @@
 -- What a run of a farm can begin with (this project's own).
 use Rattle.std.specs.Prelude.{Bool, ◌&&◌, ◌==◌, nat_le, List}
 use Rattle.std.specs.List.{list_all, list_any}
-use Rattle.farm_base.specs.declared.limits.TheConstants.{NODES}
-use Rattle.farm_base.specs.declared.number.NodeId.{NodeId}
+use Rattle.names.specs.declared.limits.TheConstants.{NODES}
+use Rattle.names.specs.declared.number.NodeId.{NodeId}
 use Rattle.schedule.specs.declared.setup.Setup.{Setup}
 
 -- the farm has 1 to 1,024 nodes

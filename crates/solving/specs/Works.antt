@@ -1,6 +1,6 @@
 -- The jobs of a run (this project's own).
 use Rattle.std.specs.Prelude.{List}
-use Rattle.farm_base.specs.declared.number.NodeId.{NodeId}
+use Rattle.names.specs.declared.number.NodeId.{NodeId}
 use Rattle.solverkeys.specs.Keyed.{KeyedParts}
 use Rattle.solving.specs.declared.work.Work.{Work}
 

@@ -2,7 +2,7 @@
 ghost use Rattle.std.specs.Prelude.{◌≡◌, ◌↔◌, ◌≤◌, ◌+◌, ◌&&◌, ◌||◌, ◌==◌, ◌++◌, ◌∷◌, [], length, true, not, filter, map, vec_len, vec_capacity, OnOk, OnErr};
 ghost use Rattle.std.specs.List.{find, list_any};
 ghost use Rattle.std.specs.Option.{option_copied};
-ghost use Rattle.farm_base.specs.declared.number.Ticket.{Ticket as AnyTicket};
+ghost use Rattle.names.specs.declared.number.Ticket.{Ticket as AnyTicket};
 ghost use Rattle.tenures.specs.Tenures.{among, is_at, is_wanted, is_under, is_recalled, is_open, in_use, all_in_use, asked, staged, taken_up, put_down, is_to_end};
 
 use super::tenure::{Ends, Stage, Tenure};

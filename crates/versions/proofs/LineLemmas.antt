@@ -7,7 +7,7 @@ use Rattle.std.proofs.lemmas.Bool.{cases_Bool, and_parts, lt-ltb}
 use borrow.Author.Tests.{ltb-true, ltb-false}
 use Rattle.std.proofs.lemmas.List.{get_or-map, length-map, map-append, get_or_append_left, get_or-append_right}
 use Rattle.farm_base.specs.declared.message.LineVersion.{LineVersion}
-use Rattle.farm_base.specs.declared.number.Ticket.{Ticket}
+use Rattle.names.specs.declared.number.Ticket.{Ticket}
 use Rattle.lists.proofs.Rising.{tail_rises}
 use Rattle.versions.specs.Line.{IsLine, tickets, is_above_all}
 

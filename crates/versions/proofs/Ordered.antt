@@ -12,8 +12,8 @@ use Rattle.std.proofs.lemmas.List.{get_or-map, length-map}
 use Rattle.std.proofs.lemmas.List.Elements.{All-set}
 use Rattle.std.proofs.lemmas.List.Sorted.{searchable_from_sorted}
 use Rattle.std.proofs.lemmas.Map.Keys.{Less-from_sorted}
-use Rattle.farm_base.specs.Slots.{slot_cmp}
-use Rattle.farm_base.proofs.CompareLaws as laws
+use Rattle.names.specs.Slots.{slot_cmp}
+use Rattle.names.proofs.CompareLaws as laws
 use Rattle.protocol.specs.Lists.{is_nil}
 use Rattle.protocol.specs.Names.{Slot, slot_eq}
 use Rattle.protocol.specs.Machine.{LineVersion}

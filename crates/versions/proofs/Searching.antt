@@ -11,7 +11,7 @@ use Rattle.std.proofs.lemmas.List.Kept.{AllPairs-from_increasing}
 use Rattle.std.proofs.lemmas.Option.{get_or_from_slice_get, slice_get_within, slice_get-map}
 use Rattle.std.proofs.lemmas.Simd.{map-map}
 use Rattle.farm_base.specs.declared.message.LineVersion.{LineVersion}
-use Rattle.farm_base.specs.declared.number.Ticket.{Ticket}
+use Rattle.names.specs.declared.number.Ticket.{Ticket}
 use Rattle.versions.specs.Line.{IsLine, ticket_in, number_in}
 use Rattle.versions.specs.Probes.{AreRising, ticket_numbered, number_among, binary_digit_count}
 

@@ -3,9 +3,9 @@ use Rattle.std.specs.Prelude.{ℕ, zero, suc, nat_eq, nat_lt, Bool, List, map, O
 use Rattle.std.specs.List.{position_from, list_all}
 use Rattle.std.specs.List.Sorted.{IsStrictlyIncreasing}
 use Rattle.std.specs.Option.{option_map}
-use Rattle.farm_base.specs.declared.digest.Digest.{Digest}
+use Rattle.names.specs.declared.digest.Digest.{Digest}
 use Rattle.farm_base.specs.declared.message.LineVersion.{LineVersion}
-use Rattle.farm_base.specs.declared.number.Ticket.{Ticket}
+use Rattle.names.specs.declared.number.Ticket.{Ticket}
 
 -- the tickets of some versions
 abbrev pub tickets : List LineVersion → List ℕ

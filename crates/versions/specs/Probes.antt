@@ -3,7 +3,7 @@ use Rattle.std.specs.Prelude.{ℕ, zero, suc, nat_eq, List, length, map, Option,
 use Rattle.std.specs.Int.Digits.{digits_of}
 use Rattle.std.specs.List.{position_from}
 use Rattle.std.specs.List.Sorted.{IsStrictlyIncreasing}
-use Rattle.farm_base.specs.declared.number.Ticket.{Ticket}
+use Rattle.names.specs.declared.number.Ticket.{Ticket}
 
 -- tickets, and how many probes of them were made
 pub record ProbedTickets : Type 0 where

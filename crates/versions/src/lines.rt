@@ -1,10 +1,10 @@
 //! The lines of slots, and what a commit adds to them.
-ghost use Rattle.std.specs.Prelude.{◌≡◌, ◌≢◌, not, ℕ, ◌<◌, ◌≤◌, ◌^◌, [], map, length, All, IfOk, IsOk, OnOk, ◌∷◌, IfSome, IfNone, MatchResult, unwrap_or, option_copied, is_some, vec_len, ◌+◌, Some};
+ghost use Rattle.std.specs.Prelude.{◌≡◌, ◌≢◌, not, ◌<◌, ◌≤◌, ◌^◌, [], map, length, All, IfOk, IsOk, OnOk, ◌∷◌, IfSome, IfNone, MatchResult, unwrap_or, option_copied, is_some, vec_len, ◌+◌, Some};
 ghost use Rattle.std.specs.List.{list_any};
 ghost use Rattle.std.specs.List.Sorted.{IsStrictlySortedBy};
 ghost use Rattle.std.specs.Vec.{vec_capacity};
-ghost use Rattle.farm_base.specs.Slots.{slot_cmp};
-ghost use Rattle.farm_base.specs.Contents.{empty_digest};
+ghost use Rattle.names.specs.Slots.{slot_cmp};
+ghost use Rattle.names.specs.Contents.{empty_digest};
 ghost use Rattle.protocol.specs.Lists.{is_nil};
 ghost use Rattle.protocol.specs.Names.{slot_eq};
 ghost use Rattle.protocol.specs.Machine.{digest_for};

@@ -10,7 +10,7 @@ use std::marker::Model;
 /// Tickets that rise, numbered from 1, which are looked at one by one.
 pub trait Probed {
     ghost use Rattle.std.specs.Prelude.{List};
-    ghost use Rattle.farm_base.specs.declared.number.Ticket.{Ticket};
+    ghost use Rattle.names.specs.declared.number.Ticket.{Ticket};
 
     /// The tickets, the first with number 1.
     ghost tickets: { Self → List Ticket };

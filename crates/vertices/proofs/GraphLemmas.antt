@@ -7,10 +7,10 @@ use Rattle.std.proofs.lemmas.List.{get_or-map, length-map, get_or_default}
 use Rattle.std.proofs.lemmas.Bool.{cases_lt}
 use Rattle.std.proofs.lemmas.List.Elements.{Contains-push_cases, Contains-append_left, Contains-push}
 use Rattle.std.proofs.lemmas.Option.{slice_get-get_or, slice_get_within, get_or_from_slice_get}
-use Rattle.farm_base.specs.declared.digest.Digest.{Digest}
+use Rattle.names.specs.declared.digest.Digest.{Digest}
 use Rattle.opsproto.specs.Scalars.{Text}
 use Rattle.opsproto.specs.declared.input.Input.{Input}
-use Rattle.farm_base.proofs.NameLaws.{digest_text-injective}
+use Rattle.names.proofs.NameLaws.{digest_text-injective}
 use Rattle.lists.proofs.Places.{at_Contains, Contains-at}
 use Rattle.ordering.specs.declared.table.Table.{Table}
 use Rattle.ordering.specs.Firsts.{number_in}

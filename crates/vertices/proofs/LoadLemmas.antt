@@ -6,8 +6,8 @@ use Rattle.std.specs.Result.{result_unwrap_or, IsOk, IfOk}
 use Rattle.std.proofs.lemmas.List.{take_at, take_all, drop_more, length-drop, get_or_push, length_push, map_push, get_or-map, length-map, length-take-le, length-take, get_or-take}
 use Rattle.std.proofs.lemmas.List.Elements.{Contains-push_cases}
 use Rattle.std.proofs.lemmas.Option.{slice_get-get_or, slice_get_within, get_or_from_slice_get}
-use Rattle.farm_base.specs.declared.digest.Digest.{Digest}
-use Rattle.farm_base.specs.Digests.{IsDigest}
+use Rattle.names.specs.declared.digest.Digest.{Digest}
+use Rattle.names.specs.Digests.{IsDigest}
 use Rattle.opsproto.specs.Ops.{OpParts, op_at, op_in}
 use Rattle.opsproto.specs.declared.op.Kind.TheVariants.{Bare}
 use Rattle.lists.proofs.Places.{take_push, Contains-at, at_Contains, get_push_end, AllZip-push}

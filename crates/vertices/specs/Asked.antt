@@ -1,7 +1,7 @@
 -- What is kept of an op until all digests are known (this project's own).
 use Rattle.std.specs.Prelude.{◌≡◌, length, IfSome, IfNone}
 use Rattle.std.specs.List.{AllZip}
-use Rattle.farm_base.specs.Digests.{IsDigest, digest_text}
+use Rattle.names.specs.Digests.{IsDigest, digest_text}
 use Rattle.opsproto.specs.Scalars.{Text}
 use Rattle.opsproto.specs.declared.input.Input.{Input}
 use Rattle.vertices.specs.declared.unresolved.Named.{Named}

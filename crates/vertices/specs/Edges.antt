@@ -1,8 +1,8 @@
 -- The edges that inputs name (this project's own, over BuildKit's ops.proto).
 use Rattle.std.specs.Prelude.{◌≡◌, ℕ, pos, ◌≤ℤ◌, ◌<◌, ◌^◌, zero, suc, map, List, [], ◌∷◌, Some, None, slice_get}
 use Rattle.std.specs.List.{Contains, AllZip}
-use Rattle.farm_base.specs.declared.digest.Digest.{Digest}
-use Rattle.farm_base.specs.Digests.{IsDigest, digest_text}
+use Rattle.names.specs.declared.digest.Digest.{Digest}
+use Rattle.names.specs.Digests.{IsDigest, digest_text}
 use Rattle.opsproto.specs.Scalars.{Text}
 use Rattle.opsproto.specs.declared.input.Input.{Input}
 use Rattle.ordering.specs.declared.table.Table.{Table}

@@ -1,8 +1,8 @@
 -- What holds once the entries of a definition are read (this project's own).
 use Rattle.std.specs.Prelude.{◌≡◌, ℕ, List, map, take}
 use Rattle.std.specs.List.{AllByRecursion, AllZip, Contains}
-use Rattle.farm_base.specs.declared.digest.Digest.{Digest}
-use Rattle.farm_base.specs.Digests.{IsDigest}
+use Rattle.names.specs.declared.digest.Digest.{Digest}
+use Rattle.names.specs.Digests.{IsDigest}
 use Rattle.ordering.specs.Firsts.{IsTable, places_in}
 use Rattle.vertices.specs.declared.loading.Loading.{Loading}
 use Rattle.vertices.specs.declared.vertex.Vertex.{Vertex}

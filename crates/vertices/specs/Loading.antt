@@ -3,8 +3,8 @@ use Rattle.std.specs.Prelude.{◌≡◌, ℕ, ◌+◌, ◌-◌, ◌<◌, List, [
 use Rattle.std.specs.List.{AllByRecursion, Contains, AllZip}
 use Rattle.std.specs.List.Sorted.{IsStrictlyIncreasing}
 use Rattle.sha2.specs.Sha256.{sha256}
-use Rattle.farm_base.specs.declared.digest.Digest.{Digest}
-use Rattle.farm_base.specs.Digests.{digest_text}
+use Rattle.names.specs.declared.digest.Digest.{Digest}
+use Rattle.names.specs.Digests.{digest_text}
 use Rattle.opsproto.specs.Scalars.{Text}
 use Rattle.opsproto.specs.declared.input.Input.{Input}
 use Rattle.opsproto.specs.Ops.{op_at, op_in}

@@ -1,6 +1,6 @@
 -- What is kept of an entry (this project's own).
 use Rattle.std.specs.Prelude.{◌≡◌, ℕ, List, Ok}
-use Rattle.farm_base.specs.Digests.{IsDigest}
+use Rattle.names.specs.Digests.{IsDigest}
 use Rattle.opsproto.specs.Ops.{OpParts, op_at}
 use Rattle.vertices.specs.declared.unresolved.Entry.{Entry}
 use Rattle.vertices.specs.declared.vertex.Vertex.{Vertex}

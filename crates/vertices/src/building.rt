@@ -1,6 +1,6 @@
 ghost use Rattle.std.specs.Prelude.{◌≡◌, ◌<◌, ℕ, List, length, IfOk, IfSome, IfNone};
 ghost use Rattle.std.specs.List.{AllZip};
-ghost use Rattle.farm_base.specs.declared.digest.Digest.{Digest as SpecDigest};
+ghost use Rattle.names.specs.declared.digest.Digest.{Digest as SpecDigest};
 ghost use Rattle.ordering.specs.Orders.{IsOrder, IsCyclic};
 ghost use Rattle.vertices.specs.declared.vertex.Vertex.{Vertex as SpecVertex};
 ghost use Rattle.vertices.specs.Outcomes.{Each, Meets};
@@ -12,7 +12,7 @@ ghost use Rattle.vertices.specs.Loading.{VertexCheck};
 use super::edges::edges_of;
 use super::refusal::LoadRefusal;
 use super::unresolved::Asked;
-use farm_base::Items;
+use names::Items;
 use ordering::{Table, order_of};
 use std::alloc::{AllocError, Global};
 

@@ -1,6 +1,6 @@
 ghost use Rattle.std.specs.Prelude.{◌≡◌, ◌<◌, List, IfOk, IfSome, IfNone, IsTrue};
-ghost use Rattle.farm_base.specs.declared.digest.Digest.{Digest as SpecDigest};
-ghost use Rattle.farm_base.specs.Digests.{IsDigest, digest_text, encode_lower};
+ghost use Rattle.names.specs.declared.digest.Digest.{Digest as SpecDigest};
+ghost use Rattle.names.specs.Digests.{IsDigest, digest_text, encode_lower};
 ghost use Rattle.std.specs.List.{AllZip};
 ghost use Rattle.opsproto.specs.Scalars.{Text};
 ghost use Rattle.opsproto.specs.declared.input.Input.{Input};
@@ -11,7 +11,7 @@ ghost use Rattle.vertices.specs.Edges.{IsDigestText, InputCheck, IsEdge, AreEdge
 
 use super::refusal::LoadRefusal;
 use super::unresolved::Named;
-use farm_base::Digest;
+use names::Digest;
 use ordering::Table;
 use std::alloc::Global;
 

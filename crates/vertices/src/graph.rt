@@ -3,7 +3,7 @@ ghost use Rattle.vertices.specs.declared.vertex.Vertex.{Vertex as SpecVertex};
 ghost use Rattle.vertices.specs.Loading.{GraphParts, IsGraph, digest_in};
 
 use super::vertex::{Source, Vertex};
-use farm_base::{Digest, Items};
+use names::{Digest, Items};
 use opsproto::{WireOp, stripped_place};
 use protowire::{SharedBodies, SharedBytes};
 use std::alloc::{AllocError, Global};

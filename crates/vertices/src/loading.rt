@@ -26,7 +26,7 @@ pub(crate) struct Loading {
 }
 
 impl Loading {
-    ghost use Rattle.farm_base.specs.declared.digest.Digest.{Digest};
+    ghost use Rattle.names.specs.declared.digest.Digest.{Digest};
     ghost use Rattle.vertices.specs.Loaded.{IsLoaded, IsReadTo, vertices_in};
 
     /// None of the entries read yet, with room for the vertices of `count` of them.

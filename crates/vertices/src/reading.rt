@@ -1,12 +1,12 @@
 ghost use Rattle.std.specs.Prelude.{◌≡◌, IfOk, Ok};
 ghost use Rattle.opsproto.specs.Ops.{OpParts, op_at};
-ghost use Rattle.farm_base.specs.Digests.{IsDigest};
+ghost use Rattle.names.specs.Digests.{IsDigest};
 ghost use Rattle.vertices.specs.Outcomes.{Meets};
 ghost use Rattle.vertices.specs.Loading.{ReadCheck, digest_in};
 
 use super::refusal::LoadRefusal;
 use bumpalo::Bump;
-use farm_base::{Digest, Items};
+use names::{Digest, Items};
 use opsproto::{Input, LentOp, OpRefusal, read_lent_op};
 use sha2::{Digest as Hasher, Sha256};
 use std::alloc::Global;

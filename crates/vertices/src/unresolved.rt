@@ -13,7 +13,7 @@ use super::execs::check_kind;
 use super::reading::{digest_of, read_entry, stripped_digest};
 use super::refusal::LoadRefusal;
 use bumpalo::Bump;
-use farm_base::Digest;
+use names::Digest;
 use opsproto::{Input, LentOp, LentText};
 use std::alloc::{AllocError, Global};
 

@@ -1,4 +1,4 @@
-use farm_base::Digest;
+use names::Digest;
 use opsproto::WireOp;
 
 /// A vertex of a graph.

@@ -13,18 +13,18 @@ use Rattle.std.proofs.lemmas.Str.{IsUtf8-from_ascii}
 use Rattle.std.proofs.lemmas.Str.Ascii.{IsAscii-from_all}
 use Rattle.std.proofs.lemmas.Str.Parse.{digit_at, IsNumeralModel, numerals_by_value, tells_digits}
 use Rattle.hex.specs.Hex.{IsBytes, encode_lower, encode_with, lower_digits}
-use Rattle.farm_base.specs.declared.folder.Base.{Base}
-use Rattle.farm_base.specs.declared.folder.FolderName.{FolderName}
-use Rattle.farm_base.specs.declared.folder.Mode.{Mode}
-use Rattle.farm_base.specs.declared.folder.Mode.TheVariants.{Shared, Private, Locked}
-use Rattle.farm_base.specs.declared.number.NodeId.{NodeId}
+use Rattle.names.specs.declared.folder.Base.{Base}
+use Rattle.names.specs.declared.folder.FolderName.{FolderName}
+use Rattle.names.specs.declared.folder.Mode.{Mode}
+use Rattle.names.specs.declared.folder.Mode.TheVariants.{Shared, Private, Locked}
+use Rattle.names.specs.declared.number.NodeId.{NodeId}
 use Rattle.farm_base.specs.declared.want.Want.{Want}
-use Rattle.farm_base.specs.Escapes.{stands, upper_digit, escaped, id_text}
-use Rattle.farm_base.specs.Names.{mode_text, output_text, base_text, folder_text, instance_text, slot_text, IsBase, IsName, IsSlot}
-use Rattle.farm_base.specs.Slots.{SlotParts, IsInstance}
-use Rattle.farm_base.proofs.EscapeLemmas.{stands-parts, escaped_plain, escaped_other, upper_digit-range}
-use Rattle.farm_base.specs.declared.digest.Digest.{Digest}
-use Rattle.farm_base.specs.Digests.{IsDigest}
+use Rattle.names.specs.Escapes.{stands, upper_digit, escaped, id_text}
+use Rattle.names.specs.Names.{mode_text, output_text, base_text, folder_text, instance_text, slot_text, IsBase, IsName, IsSlot}
+use Rattle.names.specs.Slots.{SlotParts, IsInstance}
+use Rattle.names.proofs.EscapeLemmas.{stands-parts, escaped_plain, escaped_other, upper_digit-range}
+use Rattle.names.specs.declared.digest.Digest.{Digest}
+use Rattle.names.specs.Digests.{IsDigest}
 use Rattle.words.specs.Words.{words, access_text, want_text, digits_text, node_text, slot_with, IsNode, IsWant}
 
 -- a visible byte of ASCII

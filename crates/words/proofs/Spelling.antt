@@ -1,18 +1,18 @@
 -- No two values have the same text.
 use Rattle.std.proofs.Common.{◌≡◌, ◌≢◌, ℕ, Bool, true, false, List, ◌∷◌, ◌++◌, get_or, slice_index, refl, sym, ap, ◌∙◌, subst, arith}
 use Rattle.std.proofs.lemmas.Fmt.{decimal_injective}
-use Rattle.farm_base.specs.declared.digest.Digest.{Digest}
-use Rattle.farm_base.specs.declared.folder.Mode.{Mode}
-use Rattle.farm_base.specs.declared.folder.Mode.TheVariants.{Shared, Private, Locked}
-use Rattle.farm_base.specs.declared.number.NodeId.{NodeId}
-use Rattle.farm_base.specs.declared.number.Ticket.{Ticket}
+use Rattle.names.specs.declared.digest.Digest.{Digest}
+use Rattle.names.specs.declared.folder.Mode.{Mode}
+use Rattle.names.specs.declared.folder.Mode.TheVariants.{Shared, Private, Locked}
+use Rattle.names.specs.declared.number.NodeId.{NodeId}
+use Rattle.names.specs.declared.number.Ticket.{Ticket}
 use Rattle.farm_base.specs.declared.want.Want.{Want}
-use Rattle.farm_base.specs.Decimals.{Lacks}
-use Rattle.farm_base.specs.Digests.{IsDigest}
-use Rattle.farm_base.specs.Names.{folder_text, mode_text, slot_text, IsSlot}
-use Rattle.farm_base.specs.Slots.{SlotParts}
-use Rattle.farm_base.proofs.NameLaws.{folder_text-injective, slot_text-injective}
-use Rattle.farm_base.proofs.TextLemmas.{Lacks-middle, encode-injective}
+use Rattle.names.specs.Decimals.{Lacks}
+use Rattle.names.specs.Digests.{IsDigest}
+use Rattle.names.specs.Names.{folder_text, mode_text, slot_text, IsSlot}
+use Rattle.names.specs.Slots.{SlotParts}
+use Rattle.names.proofs.NameLaws.{folder_text-injective, slot_text-injective}
+use Rattle.names.proofs.TextLemmas.{Lacks-middle, encode-injective}
 use Rattle.words.specs.Words.{node_text, ticket_text, digits_text, slot_with, access_text, want_text, IsNode, IsTicket, IsWant}
 use Rattle.words.proofs.WordLemmas.{last_same}
 

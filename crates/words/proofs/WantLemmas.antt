@@ -7,9 +7,10 @@ use Rattle.std.proofs.lemmas.List.Sorted.{Contains-permutation, IsPermutation-sy
 use Rattle.farm_base.specs.declared.want.Want.{Want}
 use Rattle.farm_base.specs.declared.want.WantsRefusal.{WantsRefusal}
 use Rattle.farm_base.specs.declared.want.WantsRefusal.TheVariants.{TooManyWants, SameFolderTwice, OutOfMemory}
-use Rattle.farm_base.specs.Folders.{folder_cmp, folder_eq}
+use Rattle.names.specs.Folders.{folder_cmp, folder_eq}
 use Rattle.farm_base.specs.Wanted.{folders}
-use Rattle.farm_base.proofs.WantLemmas.{folder_total, distinct-from_sorted, distinct-permutation}
+use Rattle.names.proofs.FolderLemmas.{folder_total}
+use Rattle.farm_base.proofs.WantLemmas.{distinct-from_sorted, distinct-permutation}
 use Rattle.lists.proofs.Rising.{same_rising}
 use Rattle.words.specs.declared.refusal.ReadRefusal.TheVariants.{BadForm}
 use Rattle.words.specs.Refusals.{wants_refusal}

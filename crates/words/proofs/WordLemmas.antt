@@ -4,8 +4,8 @@ use Rattle.std.specs.Prelude.{IfSome, IfNone, IsErrAnd, MatchOption}
 use Rattle.std.proofs.lemmas.List.{take-append-drop}
 use Rattle.std.specs.Str.Pattern.{RFindsChar}
 use Rattle.std.proofs.lemmas.Str.Pattern.{NoCharPasses-char, drop_at_char}
-use Rattle.farm_base.specs.Decimals.{Lacks}
-use Rattle.farm_base.proofs.TextLemmas.{Lacks-middle, heads}
+use Rattle.names.specs.Decimals.{Lacks}
+use Rattle.names.proofs.TextLemmas.{Lacks-middle, heads}
 use Rattle.words.specs.declared.refusal.ReadRefusal.{ReadRefusal}
 
 -- ---- exits by `?`

@@ -1,13 +1,13 @@
 //! What single words spell, and the words of a text.
 ghost use Rattle.std.specs.Prelude.{◌≡◌, ◌≢◌, ℕ, ◌<◌, Bool, List, ◌++◌, ◌∷◌, slice_index, IfOk, IfSome, IfNone};
-ghost use Rattle.farm_base.specs.declared.digest.Digest.{Digest};
-ghost use Rattle.farm_base.specs.declared.folder.FolderName.{FolderName};
-ghost use Rattle.farm_base.specs.declared.number.NodeId.{NodeId};
-ghost use Rattle.farm_base.specs.declared.number.Ticket.{Ticket};
-ghost use Rattle.farm_base.specs.Decimals.{Lacks};
-ghost use Rattle.farm_base.specs.Digests.{IsDigest};
-ghost use Rattle.farm_base.specs.Names.{folder_text, slot_text, IsName, IsSlot};
-ghost use Rattle.farm_base.specs.Slots.{SlotParts};
+ghost use Rattle.names.specs.declared.digest.Digest.{Digest};
+ghost use Rattle.names.specs.declared.folder.FolderName.{FolderName};
+ghost use Rattle.names.specs.declared.number.NodeId.{NodeId};
+ghost use Rattle.names.specs.declared.number.Ticket.{Ticket};
+ghost use Rattle.names.specs.Decimals.{Lacks};
+ghost use Rattle.names.specs.Digests.{IsDigest};
+ghost use Rattle.names.specs.Names.{folder_text, slot_text, IsName, IsSlot};
+ghost use Rattle.names.specs.Slots.{SlotParts};
 ghost use Rattle.words.specs.Words.{words, texts, node_text, ticket_text, digits_text, why_text, access_text, IsNode, IsTicket};
 
 use super::refusal::ReadRefusal;

@@ -1,6 +1,6 @@
 -- A call makes a node send one message at most.
 use Rattle.std.proofs.Common.{◌≡◌, ℕ, ◌≤◌, Bool, true, false, not, ◌&&◌, ◌||◌, nat_lt, List, [], ◌∷◌, length, Option, Some, None, Ok, ap, subst, arith, if◌then◌else◌}
-use Rattle.farm_base.specs.Contents.{content_digest}
+use Rattle.names.specs.Contents.{content_digest}
 use Rattle.protocol.specs.Machine.{slots_of, written}
 use Rattle.protocol.specs.Names.{Ticket, Want, Shared, slots_eq, digest_eq, tenure_wants}
 use Rattle.protocol.specs.World.{Node, keep, without}

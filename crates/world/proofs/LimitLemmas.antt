@@ -1,6 +1,6 @@
 -- The limits of a farm are those of its contents.
 use Rattle.std.proofs.Common.{arith, refl}
-use Rattle.farm_base.specs.Contents.{content_digest, empty_digest}
+use Rattle.names.specs.Contents.{content_digest, empty_digest}
 use Rattle.protocol.specs.Farm.{farm_limits}
 use Rattle.protocol.specs.Follows.{IsFarm}
 

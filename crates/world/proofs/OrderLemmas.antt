@@ -6,8 +6,8 @@ use Rattle.std.specs.List.Sorted.{IsStrictlySortedBy}
 use Rattle.std.proofs.lemmas.Map.Keys.{sorted_head, sorted_tail}
 use Rattle.std.specs.declared.cmp.Ordering.{Ordering}
 use Rattle.std.specs.declared.cmp.Ordering.TheVariants.{Less, Equal, Greater}
-use Rattle.farm_base.specs.Slots.{slot_cmp}
-use Rattle.farm_base.proofs.CompareLaws.{slot_total, slot_cmp-tie}
+use Rattle.names.specs.Slots.{slot_cmp}
+use Rattle.names.proofs.CompareLaws.{slot_total, slot_cmp-tie}
 use Rattle.protocol.specs.Names.{Slot, slot_eq}
 use Rattle.protocol.proofs.Base.{slot_eq_same, slot_eq_is}
 use Rattle.versions.proofs.Ordered.{reversed, apart_back}

@@ -1,7 +1,7 @@
 -- A farm stays safe and lawful, event by event.
 use Rattle.std.proofs.Common.{◌≡◌, Result, Ok, Err, sym, subst}
-use Rattle.farm_base.specs.Contents.{content_digest}
-use Rattle.farm_base.specs.declared.limits.TheConstants.{NODES}
+use Rattle.names.specs.Contents.{content_digest}
+use Rattle.names.specs.declared.limits.TheConstants.{NODES}
 use Rattle.protocol.specs.Farm.{farm_limits}
 use Rattle.protocol.specs.World.{start}
 use Rattle.protocol.specs.Safe.{EveryRunIsSafe, EveryRunStaysSafe}

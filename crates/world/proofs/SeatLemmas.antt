@@ -15,7 +15,7 @@ use Rattle.protocol.specs.Farm.{farm_limits}
 use Rattle.events.specs.declared.answer.NodeRefusal.{NodeRefusal}
 use Rattle.nodecore.specs.declared.message.NodeDone.{NodeDone}
 use Rattle.protocol.proofs.Base.{eqb_same, nth_set_cases, nth-set_same, nth-set_other, nth_push_cases}
-use Rattle.farm_base.specs.Contents.{content_digest}
+use Rattle.names.specs.Contents.{content_digest}
 use Rattle.farm_base.specs.Receivers.{receiver}
 use Rattle.farm_base.specs.declared.message.ToNode.{ToNode}
 use Rattle.nodecore.specs.declared.node_core.NodeCore.{NodeCore}

@@ -1,6 +1,6 @@
 -- What is promised of one event of a world.
 use Rattle.std.specs.Prelude.{◌≡◌, ℕ, nat_lt, false, List, Some, None, IfOk, OnOk, IsOkUnless, Result, Ok, Err, ⊤}
-use Rattle.farm_base.specs.Contents.{content_digest}
+use Rattle.names.specs.Contents.{content_digest}
 use Rattle.protocol.specs.Farm.{farm_limits}
 use Rattle.farm_base.specs.declared.message.Request.TheVariants.{Acquire}
 use Rattle.farm_base.specs.declared.message.FromCoord.TheVariants as told

@@ -2,7 +2,7 @@
 use Rattle.std.specs.Prelude.{◌≡◌, ℕ, not, List}
 use Rattle.std.specs.List.{list_any, flat_map}
 use Rattle.std.specs.List.Sorted.{IsStrictlySortedBy}
-use Rattle.farm_base.specs.Slots.{slot_cmp}
+use Rattle.names.specs.Slots.{slot_cmp}
 use Rattle.protocol.specs.Lists.{is_nil}
 use Rattle.protocol.specs.Names.{Slot, slot_eq}
 use Rattle.protocol.specs.Machine.{LineVersion}

@@ -1,6 +1,6 @@
 -- How many nodes a farm may have.
 use Rattle.std.specs.Prelude.{◌≤◌}
-use Rattle.farm_base.specs.declared.limits.TheConstants.{NODES}
+use Rattle.names.specs.declared.limits.TheConstants.{NODES}
 use Rattle.schedule.specs.declared.setup.Setup.{Setup}
 
 -- from 1 on

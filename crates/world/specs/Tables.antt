@@ -1,6 +1,6 @@
 -- The nodes of a farm by their numbers, and what an event asks of one.
 use Rattle.std.specs.Prelude.{◌≡◌, ℕ, Bool, true, false, ◌&&◌, nat_le, List, length, All, Option, Some, None, Result, Ok, Err}
-use Rattle.farm_base.specs.Contents.{content_digest}
+use Rattle.names.specs.Contents.{content_digest}
 use Rattle.protocol.specs.Farm.{farm_limits}
 use Rattle.protocol.specs.Lists.{nth, put}
 use Rattle.protocol.specs.Names.{NodeId}

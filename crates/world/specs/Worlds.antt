@@ -1,6 +1,6 @@
 -- What is so of every world.
-use Rattle.farm_base.specs.Contents.{content_digest}
-use Rattle.farm_base.specs.declared.limits.TheConstants.{NODES}
+use Rattle.names.specs.Contents.{content_digest}
+use Rattle.names.specs.declared.limits.TheConstants.{NODES}
 use Rattle.protocol.specs.Follows.{SafeAfter}
 use Rattle.protocol.specs.Lawful.{IsLawfulFarm}
 use Rattle.protocol.specs.Replay.{Farm}

@@ -1,6 +1,6 @@
 //! Laws of schedules and of what is printed.
 ghost use Rattle.std.specs.Prelude.{◌≡◌, ℕ, List};
-ghost use Rattle.farm_base.specs.Contents.{content_digest};
+ghost use Rattle.names.specs.Contents.{content_digest};
 ghost use Rattle.protocol.specs.Farm.{farm_limits};
 ghost use Rattle.protocol.specs.Names.{Slot};
 ghost use Rattle.protocol.specs.Machine.{LineVersion};

@@ -1,7 +1,7 @@
 //! What a world is made of, and what each event does to it.
 ghost use Rattle.std.specs.Prelude.{Ok, Some, None, false, [], ◌≡◌, IfOk};
-ghost use Rattle.farm_base.specs.Contents.{content_digest};
-ghost use Rattle.farm_base.specs.declared.limits.TheConstants.{NODES};
+ghost use Rattle.names.specs.Contents.{content_digest};
+ghost use Rattle.names.specs.declared.limits.TheConstants.{NODES};
 ghost use Rattle.protocol.specs.Farm.{farm_limits};
 ghost use Rattle.protocol.specs.Lawful.{IsLawfulFarm};
 ghost use Rattle.protocol.specs.Lists.{nth};

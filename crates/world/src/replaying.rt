@@ -1,6 +1,6 @@
 ghost use Rattle.std.specs.Prelude.{◌≡◌, ◌↔◌, ℕ, ◌≤◌, ◌<◌, IfOk, OnOk, length};
-ghost use Rattle.farm_base.specs.Contents.{content_digest};
-ghost use Rattle.farm_base.specs.declared.limits.TheConstants.{EVENTS};
+ghost use Rattle.names.specs.Contents.{content_digest};
+ghost use Rattle.names.specs.declared.limits.TheConstants.{EVENTS};
 ghost use Rattle.protocol.specs.Farm.{farm_limits};
 ghost use Rattle.protocol.specs.World.{start};
 ghost use Rattle.protocol.specs.Follows.{SafeAfter};

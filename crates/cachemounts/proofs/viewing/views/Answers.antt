@@ -1,6 +1,6 @@
 use Rattle.std.proofs.Common.{List, length, sym, ◌∙◌, subst}
 use Rattle.std.specs.List.{All}
-use Rattle.farm_base.specs.declared.folder.Base.{Base}
+use Rattle.names.specs.declared.folder.Base.{Base}
 use Rattle.opsproto.specs.Scalars.{Text}
 use Rattle.opsproto.specs.declared.exec.Mount.{Mount}
 use Rattle.cachemounts.specs.CacheWants.{AreWantsOf}

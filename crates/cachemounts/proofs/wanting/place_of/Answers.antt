@@ -4,7 +4,7 @@ use Rattle.std.proofs.lemmas.List.{take_all}
 use Rattle.std.proofs.lemmas.Option.{slice_get_read}
 use Rattle.farm_base.specs.declared.want.Want.{Want}
 use Rattle.farm_base.specs.Wanted.{folders}
-use Rattle.farm_base.proofs.NameLaws.{folder_exact}
+use Rattle.names.proofs.NameLaws.{folder_exact}
 use Rattle.cachemounts.proofs.AddingLemmas.{apart_more}
 use Rattle.cachemounts.proofs.wanting.place_of.Goals as goal
 

@@ -1,6 +1,6 @@
 use Rattle.std.proofs.Common.{List, length, sym, subst}
 use Rattle.std.specs.List.{All}
-use Rattle.farm_base.specs.declared.folder.Base.{Base}
+use Rattle.names.specs.declared.folder.Base.{Base}
 use Rattle.cachemounts.specs.Checked.{IsChecked}
 use Rattle.cachemounts.proofs.wanting.wants.Goals as goal
 

@@ -1,6 +1,6 @@
 use Rattle.std.proofs.Common.{◌≤◌, take, length}
 use Rattle.std.specs.List.{IsDistinct}
-use Rattle.farm_base.specs.Folders.{folder_eq}
+use Rattle.names.specs.Folders.{folder_eq}
 use Rattle.farm_base.specs.Wanted.{folders}
 use Rattle.vertices.specs.OpChecks.{cache_count}
 use Rattle.cachemounts.specs.CacheWants.{AreWantsOf}

@@ -1,7 +1,7 @@
 use Rattle.std.proofs.Common.{subst}
 use Rattle.protocol.proofs.Base.{front_trans}
 use Rattle.ledger.specs.Settling.{OnlyGrow}
-use Rattle.drafts.specs.Shown.{LineOf}
+use Rattle.effects.specs.Shown.{LineOf}
 use Rattle.ledger.proofs.Growing.{stays}
 use Rattle.coordinator.proofs.laws.lines_only_grow.Goals as goal
 

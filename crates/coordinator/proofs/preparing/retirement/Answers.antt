@@ -3,14 +3,14 @@ use Rattle.std.specs.Result.{result_err}
 use Rattle.protocol.specs.Farm.{farm_limits}
 use Rattle.protocol.specs.Ledger.{Ledger, Work, begin_work, retired}
 use Rattle.drafts.specs.declared.draft.Draft.{Draft}
-use Rattle.drafts.specs.declared.effects.Effects.{Effects}
-use Rattle.drafts.specs.declared.state.State.{State}
-use Rattle.drafts.specs.Held.{Held, ledger}
-use Rattle.drafts.specs.Idle.{AreHeldUp}
-use Rattle.drafts.specs.Keeps.{held, IsKeepable}
+use Rattle.effects.specs.declared.effects.Effects.{Effects}
+use Rattle.effects.specs.declared.state.State.{State}
+use Rattle.effects.specs.Held.{Held, ledger}
+use Rattle.effects.specs.Sound.{AreHeldUp}
+use Rattle.effects.specs.Keeps.{held, IsKeepable}
 use Rattle.ledger.specs.Prepared.{ChangesAsTold}
 use Rattle.drafts.specs.Shown.{work}
-use Rattle.drafts.specs.Sound.{IsSound}
+use Rattle.effects.specs.Sound.{IsSound}
 use Rattle.drafts.proofs.Drafting.{over}
 use Rattle.coordinator.proofs.Drafted.{prepared}
 use Rattle.coordinator.proofs.Rightful.{rightful-retired}

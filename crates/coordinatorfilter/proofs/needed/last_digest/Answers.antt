@@ -1,7 +1,7 @@
 use Rattle.std.proofs.Common.{Option, length, ap, ◌∙◌}
 use Rattle.std.specs.Prelude.{unwrap_or}
-use Rattle.farm_base.specs.Contents.{empty_digest}
-use Rattle.farm_base.specs.declared.digest.Digest.{Digest}
+use Rattle.names.specs.Contents.{empty_digest}
+use Rattle.names.specs.declared.digest.Digest.{Digest}
 use Rattle.protocol.specs.Ledger.{last_digest}
 use Rattle.versions.specs.Line.{digest_in}
 use Rattle.versions.proofs.LineWords.{last_digest-at}

@@ -1,4 +1,4 @@
-use Rattle.farm_base.proofs.CompareLaws.{version_eq-itself, version_exact}
+use Rattle.farm_base.proofs.VersionLaws.{version_eq-itself, version_exact}
 use Rattle.farm_base.proofs.laws.equal_versions_are_one.Goals as goal
 
 pub returns-clause-one : goal.returns-clause-one

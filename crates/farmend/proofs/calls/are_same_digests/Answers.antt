@@ -1,6 +1,6 @@
 use Rattle.std.proofs.Common.{◌≡◌, true, subst}
 use Rattle.std.proofs.lemmas.Slice.Eq.{slice_eq-Decides}
-use Rattle.farm_base.specs.Digests.{digest_eq}
+use Rattle.names.specs.Digests.{digest_eq}
 use Rattle.farmend.proofs.calls.are_same_digests.Goals as goal
 
 pub returns : goal.returns

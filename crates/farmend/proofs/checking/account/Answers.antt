@@ -1,7 +1,7 @@
 use Rattle.std.proofs.Common.{List, map, ap, ◌∙◌, subst}
 use Rattle.std.specs.Borrow.{Bor}
 use Rattle.executions.specs.declared.call.Call.{Call}
-use Rattle.farm_base.specs.declared.number.NodeId.{NodeId}
+use Rattle.names.specs.declared.number.NodeId.{NodeId}
 use Rattle.jobs.specs.declared.answer.Answer.{Answer}
 use Rattle.solverkeys.specs.Keyed.{KeyedParts}
 use Rattle.world.specs.Shown.{shown}

@@ -1,5 +1,5 @@
 use Rattle.std.proofs.Common.{◌≡◌, map, take}
-use Rattle.farm_base.specs.Contents.{content_digest}
+use Rattle.names.specs.Contents.{content_digest}
 use Rattle.farmhistory.proofs.bases.copies_of.Given as goal
 
 abbrev pub invariant-loop-slot : goal.invariant-loop-slot

@@ -1,7 +1,7 @@
 use Rattle.std.proofs.Common.{rules}
 use Rattle.std.specs.Ordering.{is_lt}
 use Rattle.std.proofs.lemmas.List.Sorted.{answers_always}
-use Rattle.farm_base.specs.Folders.{folder_cmp}
+use Rattle.names.specs.Folders.{folder_cmp}
 use Rattle.farmwire.proofs.reading.rises.Goals as goal
 
 pub returns : goal.returns

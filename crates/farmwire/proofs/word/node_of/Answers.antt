@@ -1,5 +1,5 @@
 use Rattle.std.proofs.Common.{◌≡◌, sym, ap, ◌∙◌, arith}
-use Rattle.farm_base.specs.declared.number.NodeId.{NodeId}
+use Rattle.names.specs.declared.number.NodeId.{NodeId}
 use Rattle.words.proofs.Spelling.{node_same}
 use Rattle.farmwire.proofs.Spelling.{node_fits}
 use Rattle.farmwire.proofs.word.node_of.Goals as goal

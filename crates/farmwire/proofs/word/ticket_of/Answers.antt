@@ -1,5 +1,5 @@
 use Rattle.std.proofs.Common.{◌≡◌, sym, ap, ◌∙◌, arith}
-use Rattle.farm_base.specs.declared.number.Ticket.{Ticket}
+use Rattle.names.specs.declared.number.Ticket.{Ticket}
 use Rattle.words.proofs.Spelling.{ticket_same}
 use Rattle.farmwire.proofs.word.ticket_of.Goals as goal
 

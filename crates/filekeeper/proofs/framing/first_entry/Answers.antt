@@ -2,7 +2,7 @@ use Rattle.std.proofs.Common.{◌≡◌, ◌++◌, ◌<◌, ℕ, List, drop, len
 use Rattle.std.proofs.lemmas.Bool.{true≢false}
 use Rattle.std.proofs.lemmas.List.{take-append-drop}
 use Rattle.std.proofs.lemmas.Nat.{be_bytes_8}
-use Rattle.farm_base.specs.Digests.{IsBytes}
+use Rattle.names.specs.Digests.{IsBytes}
 use Rattle.codec.proofs.Fronts.{IsBytes-drop, IsBytes-take}
 use Rattle.filekeeper.specs.Framing.{check_of, HasHead}
 use Rattle.recordparts.specs.Spelling.{number64}

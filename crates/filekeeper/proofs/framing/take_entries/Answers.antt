@@ -10,7 +10,7 @@ loop-number-init c = record { none = λ e. refl; taken = at_first c.args.log.now
 pub returns-in_default-clause-taken : goal.returns-in_default-clause-taken
 returns-in_default-clause-taken c =
     let inv = c.loop-number.invariant in
-    all_taken c.args.log.now c.loop-number.log c.args.bytes.now c.loop-number.rest.now _ inv.taken
+    all_taken c.args.log.now c.loop-number.log c.args.bytes.now c.loop-number.rest.now _ _ inv.taken
     (subst (λ w. HasNone w c.loop-number.rest.now) c.whole.ensures (c.in_ok-entry.ensures.none (ap (λ o. Ok o) c.in_default.is))) refl
 
 pub loop-number-preserved : goal.loop-number-preserved
@@ -20,7 +20,7 @@ loop-number-preserved c =
     let told = rw c.in-Some.is at c.in_ok-entry.ensures.told in
     record {
       none = λ e. absurd (no_more c.loop-number.number (length c.args.bytes.now) (ap length e) (omega (arith, c.loop-number-test.true, c.loop-number.auto.number-end)));
-      taken = one_more c.args.log.now c.loop-number.log c.push.new.self c.args.bytes.now c.loop-number.rest.now c.in-Some.after.now c.in-Some.entry.now inv.taken
+      taken = one_more c.args.log.now c.loop-number.log c.push.new.self c.args.bytes.now c.loop-number.rest.now c.in-Some.after.now c.in-Some.entry.now _ inv.taken
           (subst (λ w. c.loop-number.rest.now ≡ framed w c.in-Some.entry.now ++ c.in-Some.after.now) c.whole.ensures entry) told
           (c.in_ok-push.ensures.ok ∙ ap (λ zs. with_text zs c.loop-number.log) c.in_ok-entry-2.ensures.items);
       shorter = shorter c.whole.result.now c.in-Some.entry.now c.loop-number.rest.now c.in-Some.after.now c.loop-number.number (length c.args.bytes.now) entry inv.shorter;
@@ -32,5 +32,5 @@ loop-number-preserved c =
 pub returns-clause-taken : goal.returns-clause-taken
 returns-clause-taken c =
     let inv = c.loop-number.invariant in
-    all_taken c.args.log.now c.loop-number.log c.args.bytes.now c.loop-number.rest.now _ inv.taken
+    all_taken c.args.log.now c.loop-number.log c.args.bytes.now c.loop-number.rest.now _ _ inv.taken
     (at_last c.loop-number.log.whole c.loop-number.rest.now c.loop-number.number (length c.args.bytes.now) inv.shorter (omega (arith, c.loop-number-test.false, c.loop-number.auto.number-end))) refl

@@ -1,4 +1,4 @@
-use Rattle.farm_base.specs.declared.number.NodeId.{NodeId}
+use Rattle.names.specs.declared.number.NodeId.{NodeId}
 use Rattle.holdings.proofs.PlaceLemmas.{searched}
 use Rattle.holdings.proofs.retired_nodes.place_of.Goals as goal
 

@@ -1,7 +1,7 @@
 use Rattle.std.proofs.Common.{◌∙◌, sym, ap, subst}
 use Rattle.std.specs.List.Sorted.{IsStrictlySortedBy}
 use Rattle.std.proofs.lemmas.List.Filters.{dedup_is}
-use Rattle.farm_base.specs.Slots.{slot_cmp}
+use Rattle.names.specs.Slots.{slot_cmp}
 use Rattle.protocol.specs.Names.{slot_eq}
 use Rattle.holdings.specs.Leases.{among}
 use Rattle.holdings.proofs.RisingLemmas.{among-rising, rises-dedup}

@@ -1,6 +1,6 @@
 use Rattle.std.proofs.Common.{ℕ, List, take, get_or, subst, sym, []}
 use Rattle.std.proofs.lemmas.Option.{slice_get-get_or}
-use Rattle.farm_base.specs.declared.digest.Key.{Key}
+use Rattle.names.specs.declared.digest.Key.{Key}
 use Rattle.solverkeys.specs.GraphKeys.{TakesKeys}
 use Rattle.solverkeys.proofs.KeyLemmas.{takes_more}
 use Rattle.lists.proofs.Places.{take_push}

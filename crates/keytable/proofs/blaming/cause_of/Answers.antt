@@ -1,6 +1,6 @@
 use Rattle.std.proofs.Common.{Bool, refl, subst}
 use Rattle.std.specs.Bool.{MatchBool}
-use Rattle.farm_base.specs.declared.digest.Key.{Key}
+use Rattle.names.specs.declared.digest.Key.{Key}
 use Rattle.keytable.specs.Causes.{IsFirstCause, fails, result_lacks, no_cause}
 use Rattle.keytable.specs.Failing.{Fails, LacksOutput}
 use Rattle.keytable.proofs.CauseLemmas.{unmarked_stands}

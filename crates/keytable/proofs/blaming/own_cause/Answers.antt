@@ -1,5 +1,5 @@
 use Rattle.std.proofs.Common.{ℕ, List, refl, sym, ap, ◌∙◌, subst}
-use Rattle.farm_base.specs.declared.digest.Key.{Key}
+use Rattle.names.specs.declared.digest.Key.{Key}
 use Rattle.keytable.specs.declared.cause.Cause.{Cause}
 use Rattle.keytable.specs.declared.cause.Cause.TheVariants as causes
 use Rattle.keytable.specs.declared.entry.Entry.{Entry}

@@ -1,7 +1,7 @@
 use Rattle.std.proofs.Common.{◌≡◌, ◌+◌, ◌≤◌, ◌<◌, ◌⊎◌, ℕ, true, Some, vec_len, slice_get}
 use Rattle.std.specs.List.{Contains}
 use Rattle.std.specs.Vec.{vec_capacity}
-use Rattle.farm_base.specs.declared.digest.Key.{Key}
+use Rattle.names.specs.declared.digest.Key.{Key}
 use Rattle.ordering.specs.Flags.{flag_at}
 use Rattle.ordering.specs.Sorting.{open_count}
 use Rattle.keytable.specs.declared.entry.Entry.{Entry}

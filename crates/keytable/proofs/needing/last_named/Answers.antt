@@ -1,7 +1,7 @@
 use Rattle.std.proofs.Common.{◌≡◌, ◌∙◌, ℕ, [], Some, get_or, slice_get, sym, ap, subst, arith}
 use Rattle.std.specs.List.{Contains}
 use Rattle.std.proofs.lemmas.Option.{slice_get_within, slice_get-get_or}
-use Rattle.farm_base.specs.declared.digest.Key.{Key}
+use Rattle.names.specs.declared.digest.Key.{Key}
 use Rattle.lists.proofs.Places.{Contains-at, at_Contains}
 use Rattle.keytable.proofs.TableLemmas.{key_same, key_eq_is}
 use Rattle.keytable.proofs.NeedLemmas.{later_is, later_covers, named_more}

@@ -1,7 +1,7 @@
 use Rattle.std.proofs.Common.{[], ap, sym, subst, ◌∙◌}
 use Rattle.std.proofs.lemmas.List.Elements.{All-nil}
 use Rattle.std.specs.Map.{update_all}
-use Rattle.farm_base.specs.Folders.{folder_eq}
+use Rattle.names.specs.Folders.{folder_eq}
 use Rattle.leaseindex.specs.Index.{ticket_at, IsIndexed, AreIndexed}
 use Rattle.leaseindex.proofs.IndexLemmas.{indexed-all}
 use Rattle.leaseindex.proofs.folder_index.index_of.Goals as goal

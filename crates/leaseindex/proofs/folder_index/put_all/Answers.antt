@@ -1,7 +1,7 @@
 use mathlib.Core.Path.{fun_ext}
 use Rattle.std.proofs.Common.{◌∙◌, arith, length-append}
 use Rattle.std.proofs.lemmas.Map.{update_all_push}
-use Rattle.farm_base.specs.Folders.{folder_eq}
+use Rattle.names.specs.Folders.{folder_eq}
 use Rattle.leaseindex.specs.Index.{ticket_at}
 use Rattle.leaseindex.proofs.folder_index.put_all.Goals as goal
 

@@ -1,7 +1,7 @@
 use Rattle.std.proofs.Common.{◌≡◌, ◌+◌, ◌≤◌, length, vec_len}
 use Rattle.std.specs.Map.{update_all}
 use Rattle.indexmap.specs.IndexMap.{spare}
-use Rattle.farm_base.specs.Folders.{folder_eq}
+use Rattle.names.specs.Folders.{folder_eq}
 use Rattle.leaseindex.specs.Index.{ticket_at}
 use Rattle.leaseindex.proofs.folder_index.put_all.Given as goal
 

@@ -1,7 +1,7 @@
 use Rattle.std.proofs.Common.{ℕ, Bool, ◌&&◌, ◌||◌, eqb, ◌∙◌, ap}
 use Rattle.std.specs.List.{list_any}
 use Rattle.std.proofs.Math.Bool.{or-false}
-use Rattle.farm_base.specs.Folders.{folder_eq}
+use Rattle.names.specs.Folders.{folder_eq}
 use Rattle.protocol.specs.Names.{FolderName}
 use Rattle.leaseindex.proofs.TakenLemmas.{leases_any}
 use Rattle.leaseindex.proofs.taken_instances.taken_of.Goals as goal

@@ -4,10 +4,10 @@ use Rattle.holdings.specs.Lives.{life_at, is_among}
 use Rattle.leases.specs.Changes.{changed}
 use Rattle.parked.specs.Queue.{asks_of}
 use Rattle.parked.specs.Waiting.{waits_after}
-use Rattle.drafts.specs.declared.effects.Effects.{Effects}
-use Rattle.drafts.specs.Held.{Held, line_at}
-use Rattle.drafts.specs.Keeps.{held}
-use Rattle.drafts.specs.Shown.{work_of, lines_with, with_life, with_gone}
+use Rattle.effects.specs.declared.effects.Effects.{Effects}
+use Rattle.effects.specs.Held.{Held, line_at}
+use Rattle.effects.specs.Keeps.{held}
+use Rattle.effects.specs.Shown.{work_of, lines_with, with_life, with_gone}
 use Rattle.ledger.proofs.ledger.apply.Goals as goal
 
 pub returns-clause-lines : goal.returns-clause-lines

@@ -2,7 +2,7 @@ use Rattle.std.proofs.Common.{◌≡◌, ◌++◌, ◌||◌, true, Bool, List, [
 use Rattle.std.proofs.lemmas.List.Folds.{list_any-append}
 use Rattle.std.specs.Prelude.{All, map}
 use Rattle.std.specs.List.Sorted.{IsStrictlyIncreasing, IsStrictlySortedBy}
-use Rattle.farm_base.specs.Slots.{slot_cmp}
+use Rattle.names.specs.Slots.{slot_cmp}
 use Rattle.farm_base.specs.declared.lease.NodeLife.{NodeLife}
 use Rattle.leases.specs.Changes.{saved_tickets}
 use Rattle.holdings.specs.Leases.{among}
@@ -17,9 +17,9 @@ use Rattle.versions.specs.declared.lines.SlotLine.{SlotLine}
 use Rattle.saverecord.specs.Logs.{with_lives}
 use Rattle.saverecord.specs.Logs.{is_ended}
 use Rattle.saverecord.specs.Logs.{with_gone as with_nodes}
-use Rattle.drafts.specs.Held.{Held}
-use Rattle.drafts.specs.Keeps.{held}
-use Rattle.drafts.specs.Shown.{lines_with}
+use Rattle.effects.specs.Held.{Held}
+use Rattle.effects.specs.Keeps.{held}
+use Rattle.effects.specs.Shown.{lines_with}
 use Rattle.ledger.proofs.Entries.{split_lines, ready_alone, added_follow, ended_there, ended_rise, live_after}
 use Rattle.ledger.proofs.record.entry_of.Goals as goal
 

@@ -1,7 +1,7 @@
 use Rattle.std.proofs.Common.{◌≡◌, List, [], ap, sym, ◌∙◌, subst, filter}
 use Rattle.std.specs.Prelude.{map}
 use Rattle.std.specs.List.Sorted.{IsStrictlyIncreasing, IsStrictlySortedBy}
-use Rattle.farm_base.specs.Slots.{slot_cmp}
+use Rattle.names.specs.Slots.{slot_cmp}
 use Rattle.leases.specs.Leases.{Table}
 use Rattle.holdings.specs.Leases.{among}
 use Rattle.holdings.specs.Lives.{life_at, is_among}
@@ -10,9 +10,9 @@ use Rattle.protocol.specs.Names.{Slot, NodeId}
 use Rattle.protocol.specs.Ledger.{is_saved}
 use Rattle.versions.specs.Lines.{line_at}
 use Rattle.versions.specs.Ordered.{AreLines}
-use Rattle.drafts.specs.Held.{Held}
-use Rattle.drafts.specs.Keeps.{held}
-use Rattle.drafts.specs.Shown.{work_of, table_after, with_life, with_gone, lines_with}
+use Rattle.effects.specs.Held.{Held}
+use Rattle.effects.specs.Keeps.{held}
+use Rattle.effects.specs.Shown.{work_of, table_after, with_life, with_gone, lines_with}
 use Rattle.ledger.proofs.Records.{record_kept}
 use Rattle.ledger.proofs.record.record_of.Goals as goal
 

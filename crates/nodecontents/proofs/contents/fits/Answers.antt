@@ -1,5 +1,5 @@
 use Rattle.std.proofs.Common.{◌≡◌, [], List, drop, ap, sym, ◌∙◌, arith}
-use Rattle.farm_base.specs.Contents.{content_digest}
+use Rattle.names.specs.Contents.{content_digest}
 use Rattle.protocol.specs.Machine.{GrantedSlot, slots_of, written}
 use Rattle.protocol.specs.Names.{slots_eq}
 use Rattle.protocol.specs.Nodes.{news_of}

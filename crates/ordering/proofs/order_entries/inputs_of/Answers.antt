@@ -1,7 +1,7 @@
 use Rattle.std.proofs.Common.{◌+◌, List, take, subst, sym, arith}
 use Rattle.std.proofs.lemmas.List.{take_all}
 use Rattle.std.proofs.lemmas.Option.{slice_get-get_or}
-use Rattle.farm_base.specs.declared.digest.Digest.{Digest}
+use Rattle.names.specs.declared.digest.Digest.{Digest}
 use Rattle.ordering.specs.Entries.{AreResolved}
 use Rattle.ordering.proofs.EntryLemmas.{resolved_more}
 use Rattle.ordering.proofs.order_entries.inputs_of.Goals as goal

@@ -1,5 +1,5 @@
 use Rattle.std.proofs.Common.{List, take}
-use Rattle.farm_base.specs.declared.digest.Digest.{Digest}
+use Rattle.names.specs.declared.digest.Digest.{Digest}
 use Rattle.ordering.specs.Firsts.{IsTable}
 use Rattle.ordering.specs.Entries.{AreResolved}
 use Rattle.ordering.proofs.order_entries.inputs_of.Given as goal

@@ -1,6 +1,6 @@
 use Rattle.std.proofs.Common.{◌≡◌, ℕ, List, subst, sym, ◌∙◌, Some}
 use Rattle.std.specs.List.{slice_get}
-use Rattle.farm_base.specs.declared.digest.Digest.{Digest}
+use Rattle.names.specs.declared.digest.Digest.{Digest}
 use Rattle.ordering.specs.Firsts.{IsTable, IsFirstAt}
 use Rattle.ordering.specs.Entries.{Entry, digests_of, IsVertex, IsRowOf, LacksInput, AreResolved, HasUnknown}
 use Rattle.ordering.proofs.EntryLemmas.{if_ok_some, if_ok_none, resolved_row, resolved_known, named_of, digest_at, lacks, no_vertex, no_row}

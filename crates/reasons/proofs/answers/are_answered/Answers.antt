@@ -3,7 +3,7 @@ use Rattle.std.proofs.lemmas.Option.{slice_get_read, slice_get-get_or}
 use Rattle.jobs.specs.declared.answer.Answer.{Answer}
 use Rattle.jobs.specs.declared.answer.Answer.TheVariants.{Waiting}
 use Rattle.solverkeys.specs.Keyed.{KeyedParts}
-use Rattle.farm_base.specs.declared.number.NodeId.{NodeId}
+use Rattle.names.specs.declared.number.NodeId.{NodeId}
 use Rattle.world.specs.Shown.{shown}
 use Rattle.reasons.specs.Answers.{IsAnswered}
 use Rattle.reasons.specs.NewCalls.{on_node}

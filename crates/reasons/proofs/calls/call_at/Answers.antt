@@ -3,7 +3,7 @@ use Rattle.std.specs.Borrow.{Bor}
 use Rattle.std.proofs.lemmas.Bool.{not-false}
 use Rattle.std.proofs.lemmas.List.{get_or_read}
 use Rattle.std.proofs.lemmas.Option.{IfSome_then}
-use Rattle.farm_base.specs.declared.number.NodeId.{NodeId}
+use Rattle.names.specs.declared.number.NodeId.{NodeId}
 use Rattle.executions.specs.declared.call.Call.{Call}
 use Rattle.reasons.proofs.NewsLemmas.{on_node_has}
 use Rattle.reasons.proofs.calls.call_at.Goals as goal

@@ -1,5 +1,5 @@
 use Rattle.std.proofs.Common.{List, subst}
-use Rattle.farm_base.specs.declared.digest.Key.{Key}
+use Rattle.names.specs.declared.digest.Key.{Key}
 use Rattle.reasons.specs.Solved.{LacksAt, news_in}
 use Rattle.reasons.proofs.SolvedLemmas.{takes_input}
 use Rattle.reasons.proofs.solved.is_failing.Goals as goal

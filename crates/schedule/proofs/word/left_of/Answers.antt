@@ -1,5 +1,5 @@
 use Rattle.std.proofs.Common.{Err, refl, ap}
-use Rattle.farm_base.proofs.TextLemmas.{encode-lacks}
+use Rattle.names.proofs.TextLemmas.{encode-lacks}
 use Rattle.words.proofs.Spelling.{slot_without, slot_parts}
 use Rattle.words.proofs.WordLemmas.{passed_on}
 use Rattle.schedule.proofs.word.left_of.Goals as goal

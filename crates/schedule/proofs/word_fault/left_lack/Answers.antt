@@ -1,7 +1,7 @@
 use Rattle.std.proofs.Common.{refl, sym, subst, ◌∙◌}
 use Rattle.std.proofs.lemmas.Result.{IfOk-weaker}
-use Rattle.farm_base.specs.Decimals.{Lacks}
-use Rattle.farm_base.proofs.TextLemmas.{Lacks-middle}
+use Rattle.names.specs.Decimals.{Lacks}
+use Rattle.names.proofs.TextLemmas.{Lacks-middle}
 use Rattle.words.proofs.WordLemmas.{last_same}
 use Rattle.schedule.specs.Lacks.{IsLeftLack}
 use Rattle.schedule.proofs.word_fault.left_lack.Goals as goal

@@ -1,6 +1,6 @@
 use Rattle.std.proofs.Common.{◌≡◌, ◌++◌, List, drop, true}
 use Rattle.std.specs.List.{list_all}
-use Rattle.farm_base.specs.declared.folder.FolderName.{FolderName}
+use Rattle.names.specs.declared.folder.FolderName.{FolderName}
 use Rattle.folders.specs.Files.{Files}
 use Rattle.slotfolders.specs.Seen.{Named, folder_seen}
 use Rattle.slotfolders.specs.Left.{FolderEdits, is_small, changed}

@@ -1,6 +1,6 @@
 use Rattle.std.proofs.Common.{ℕ, ◌<◌, List, subst, sym, ap, ◌∙◌}
 use Rattle.std.specs.List.{All}
-use Rattle.farm_base.specs.declared.digest.Digest.{Digest}
+use Rattle.names.specs.declared.digest.Digest.{Digest}
 use Rattle.lists.proofs.Places.{at_place}
 use Rattle.vertices.proofs.GraphLemmas.{list_at-get}
 use Rattle.solverkeys.specs.Keys.{solver_key}

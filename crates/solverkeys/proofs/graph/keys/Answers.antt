@@ -2,7 +2,7 @@ use Rattle.std.proofs.Common.{◌≡◌, ℕ, ◌+◌, List, take, get_or, set, 
 use Rattle.std.specs.List.{Contains, slice_get}
 use Rattle.std.proofs.lemmas.List.{length-set, take_all}
 use Rattle.std.proofs.lemmas.Option.{slice_get-get_or}
-use Rattle.farm_base.specs.declared.digest.Key.{Key}
+use Rattle.names.specs.declared.digest.Key.{Key}
 use Rattle.solverkeys.specs.GraphKeys.{HasKey, FollowsKeys}
 use Rattle.solverkeys.proofs.KeyLemmas.{keys_more, order_number}
 use Rattle.solverkeys.proofs.graph.keys.Goals as goal

@@ -1,7 +1,7 @@
 use Rattle.std.proofs.Common.{ℕ, [], Option, get_or, is_some, ap}
 use Rattle.std.specs.HashMap.{get}
 use Rattle.std.proofs.lemmas.Option.{slice_get-get_or}
-use Rattle.farm_base.specs.declared.digest.Key.{Key}
+use Rattle.names.specs.declared.digest.Key.{Key}
 use Rattle.ordering.proofs.TableLemmas.{not_some}
 use Rattle.solverkeys.specs.Keyed.{key_eq}
 use Rattle.solverkeys.proofs.KeyedLemmas.{firsts_known, firsts_new}

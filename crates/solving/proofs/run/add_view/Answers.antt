@@ -1,5 +1,5 @@
 use Rattle.std.proofs.Common.{List, sym, subst}
-use Rattle.farm_base.specs.declared.folder.FolderName.{FolderName}
+use Rattle.names.specs.declared.folder.FolderName.{FolderName}
 use Rattle.folders.specs.Files.{Files}
 use Rattle.solving.specs.Places.{IsSeenIn}
 use Rattle.solving.proofs.ViewLemmas.{seen_here, seen_push}

@@ -1,6 +1,6 @@
 use Rattle.std.proofs.Common.{◌≡◌}
 use Rattle.std.specs.List.{All}
-use Rattle.farm_base.specs.declared.folder.Mode.TheVariants.{Shared}
+use Rattle.names.specs.declared.folder.Mode.TheVariants.{Shared}
 use Rattle.solving.proofs.work.add_wanted.Given as goal
 
 -- the folders so far are SHARED

@@ -1,5 +1,5 @@
 use Rattle.std.proofs.Common.{List, Option, map, ap, sym, ◌∙◌}
-use Rattle.farm_base.specs.Contents.{empty_digest}
+use Rattle.names.specs.Contents.{empty_digest}
 use Rattle.protocol.specs.Machine.{digest_for}
 use Rattle.protocol.specs.Ledger.{last_digest}
 use Rattle.versions.specs.declared.lines.Addition.{Addition}

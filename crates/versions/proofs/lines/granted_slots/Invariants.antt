@@ -1,5 +1,5 @@
 use Rattle.std.proofs.Common.{◌≡◌, take, map}
-use Rattle.farm_base.specs.Contents.{empty_digest}
+use Rattle.names.specs.Contents.{empty_digest}
 use Rattle.protocol.specs.Ledger.{granted_slot}
 use Rattle.versions.specs.Lines.{lines_with}
 use Rattle.versions.proofs.lines.granted_slots.Given as goal

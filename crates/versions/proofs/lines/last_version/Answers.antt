@@ -1,6 +1,6 @@
 use Rattle.std.proofs.Common.{Option, length, ap, ◌∙◌}
 use Rattle.std.specs.Prelude.{unwrap_or}
-use Rattle.farm_base.specs.Contents.{empty_digest}
+use Rattle.names.specs.Contents.{empty_digest}
 use Rattle.protocol.specs.Names.{Digest}
 use Rattle.protocol.specs.Ledger.{last_digest}
 use Rattle.versions.specs.Line.{digest_in}

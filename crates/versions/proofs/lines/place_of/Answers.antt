@@ -1,6 +1,6 @@
 use Rattle.std.proofs.Common.{rules}
 use Rattle.std.proofs.lemmas.Fn.{always_returns_same}
-use Rattle.farm_base.specs.Slots.{slot_cmp}
+use Rattle.names.specs.Slots.{slot_cmp}
 use Rattle.versions.proofs.Ordered.{searched}
 use Rattle.versions.proofs.lines.place_of.Goals as goal
 

@@ -1,9 +1,9 @@
 use Rattle.std.proofs.Common.{◌≡◌, inl, inr, refl, sym, ◌∙◌, subst, Option, None}
 use Rattle.std.specs.Option.{IfSome}
 use Rattle.std.specs.List.{Contains}
-use Rattle.farm_base.specs.declared.digest.Digest.{Digest}
-use Rattle.farm_base.specs.Digests.{IsDigest, digest_text}
-use Rattle.farm_base.proofs.NameLaws.{digest_text-injective}
+use Rattle.names.specs.declared.digest.Digest.{Digest}
+use Rattle.names.specs.Digests.{IsDigest, digest_text}
+use Rattle.names.proofs.NameLaws.{digest_text-injective}
 use Rattle.ordering.specs.Firsts.{number_in}
 use Rattle.vertices.proofs.edges.edge_of.Goals as goal
 

@@ -1,6 +1,6 @@
 use Rattle.std.proofs.Common.{List, take, None}
 use Rattle.std.specs.List.{AllZip}
-use Rattle.farm_base.specs.declared.digest.Digest.{Digest}
+use Rattle.names.specs.declared.digest.Digest.{Digest}
 use Rattle.opsproto.specs.Scalars.{Text}
 use Rattle.opsproto.specs.declared.input.Input.{Input}
 use Rattle.vertices.specs.declared.vertex.Vertex.{Vertex}

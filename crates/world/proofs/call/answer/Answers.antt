@@ -1,5 +1,5 @@
 use Rattle.std.proofs.Common.{◌≡◌, ap, sym, subst, rules}
-use Rattle.farm_base.specs.Contents.{content_digest}
+use Rattle.names.specs.Contents.{content_digest}
 use Rattle.farm_base.specs.declared.message.ToNode.TheVariants.{Blob}
 use Rattle.protocol.specs.Names.{NodeId}
 use Rattle.protocol.specs.Nodes.{NodeWork, brought, unless_spent}

@@ -1,4 +1,4 @@
-use Rattle.farm_base.specs.Contents.{content_digest}
+use Rattle.names.specs.Contents.{content_digest}
 use Rattle.protocol.specs.Farm.{farm_limits}
 use Rattle.world.proofs.LimitLemmas.{is_farm}
 use Rattle.world.proofs.laws.every_replay_means.Goals as goal

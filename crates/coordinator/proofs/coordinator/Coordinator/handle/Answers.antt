@@ -1,12 +1,12 @@
 use Rattle.std.proofs.Common.{◌≡◌, false, Ok, sym, ap, ◌∙◌, subst}
 use Rattle.protocol.specs.Farm.{farm_limits}
 use Rattle.protocol.specs.Ledger.{Ledger, Work, begin_work, handled}
-use Rattle.drafts.specs.Held.{Held, ledger}
-use Rattle.drafts.specs.Keeps.{held}
+use Rattle.effects.specs.Held.{Held, ledger}
+use Rattle.effects.specs.Keeps.{held}
 use Rattle.ledger.specs.Seen.{Seen}
 use Rattle.ledger.specs.Prepared.{IsPrepared}
-use Rattle.drafts.specs.Shown.{work_of}
-use Rattle.drafts.specs.Sound.{IsRightful}
+use Rattle.effects.specs.Shown.{work_of}
+use Rattle.effects.specs.Sound.{IsRightful}
 use Rattle.coordinator.specs.Promises.{GrantsAtOnce, EndsOnlyItsOwn}
 use Rattle.coordinator.proofs.Answering.{settled_up, at_once, own}
 use Rattle.coordinator.proofs.Kept.{grants}

@@ -1,8 +1,8 @@
 use Rattle.std.proofs.Common.{◌≡◌, ap, ◌∙◌, subst}
 use Rattle.protocol.specs.Farm.{farm_limits}
 use Rattle.protocol.specs.Follows.{NoneReady}
-use Rattle.drafts.specs.Held.{Held, ledger}
-use Rattle.drafts.specs.Keeps.{held}
+use Rattle.effects.specs.Held.{Held, ledger}
+use Rattle.effects.specs.Keeps.{held}
 use Rattle.ledger.specs.Seen.{Seen}
 use Rattle.coordinator.proofs.Kept.{none_ready}
 use Rattle.coordinator.proofs.coordinator.Coordinator.is_none_ready.Goals as goal

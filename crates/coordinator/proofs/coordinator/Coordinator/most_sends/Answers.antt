@@ -1,7 +1,7 @@
 use Rattle.std.proofs.Common.{◌≡◌, List, length, ap, ◌∙◌, arith}
 use Rattle.protocol.specs.Machine.{Parked}
 use Rattle.protocol.specs.Farm.{farm_limits}
-use Rattle.drafts.specs.Held.{Held, ledger}
+use Rattle.effects.specs.Held.{Held, ledger}
 use Rattle.drafts.proofs.Sends.{handled_few}
 use Rattle.parked.specs.Queue.{asks_of}
 use Rattle.ledger.specs.Seen.{Seen}

@@ -1,11 +1,11 @@
 use Rattle.std.proofs.Common.{◌≡◌, false, Ok, sym, ap, ◌∙◌, subst}
 use Rattle.protocol.specs.Farm.{farm_limits}
 use Rattle.protocol.specs.Ledger.{Work, begin_work, retired}
-use Rattle.drafts.specs.Held.{Held, ledger}
-use Rattle.drafts.specs.Keeps.{held}
+use Rattle.effects.specs.Held.{Held, ledger}
+use Rattle.effects.specs.Keeps.{held}
 use Rattle.ledger.specs.Seen.{Seen}
 use Rattle.ledger.specs.Prepared.{IsPrepared}
-use Rattle.drafts.specs.Shown.{work_of}
+use Rattle.effects.specs.Shown.{work_of}
 use Rattle.coordinator.proofs.Answering.{settled_up}
 use Rattle.coordinator.proofs.coordinator.Coordinator.retire.Goals as goal
 

@@ -1,10 +1,10 @@
 use Rattle.std.proofs.Common.{◌≡◌, Bool, false, Ok, sym, ap, ◌∙◌, subst}
 use Rattle.protocol.specs.Ledger.{Work}
-use Rattle.drafts.specs.Held.{Held, line_at}
+use Rattle.effects.specs.Held.{Held, line_at}
 use Rattle.ledger.specs.Seen.{Seen, IsKeeping}
 use Rattle.ledger.specs.Settling.{Answers, OnlyGrow}
 use Rattle.ledger.specs.Prepared.{IsPrepared}
-use Rattle.drafts.specs.Shown.{work_of}
+use Rattle.effects.specs.Shown.{work_of}
 use Rattle.coordinator.proofs.coordinator.Coordinator.settle.Goals as goal
 
 pub settle-result-requires-clause-prepared : goal.settle-result-requires-clause-prepared

@@ -3,11 +3,11 @@ use Rattle.std.specs.List.{list_any}
 use Rattle.protocol.specs.Farm.{farm_limits}
 use Rattle.protocol.specs.Ledger.{Work, newer_life, sees, is_home, is_older}
 use Rattle.leases.specs.Leases.{Table}
-use Rattle.drafts.specs.declared.effects.Effects.{Effects}
+use Rattle.effects.specs.declared.effects.Effects.{Effects}
 use Rattle.drafts.specs.Idle.{AreIdle}
-use Rattle.drafts.specs.Keeps.{IsKeepable}
+use Rattle.effects.specs.Keeps.{IsKeepable}
 use Rattle.drafts.specs.Shown.{work}
-use Rattle.drafts.specs.Sound.{IsSound}
+use Rattle.effects.specs.Sound.{IsSound}
 use Rattle.drafts.proofs.Drafting.{makes-as, makes-then}
 use Rattle.drafts.proofs.HeldUp.{other-home}
 use Rattle.drafts.proofs.SoundWords.{sound-sees}

@@ -5,12 +5,13 @@ use Rattle.protocol.specs.Ledger.{Work, retried, notes, lease_under, may_commit,
 use Rattle.versions.specs.Additions.{IsReady}
 use Rattle.versions.specs.declared.lines.Added.{Added}
 use Rattle.versions.specs.declared.lines.SlotLine.{SlotLine}
-use Rattle.drafts.specs.declared.state.State.{State}
+use Rattle.effects.specs.declared.state.State.{State}
 use Rattle.drafts.specs.Idle.{AreIdle}
-use Rattle.drafts.specs.Keeps.{IsKeepable}
-use Rattle.drafts.specs.Held.{line_at}
-use Rattle.drafts.specs.Shown.{work, lines_with}
-use Rattle.drafts.specs.Sound.{IsSound}
+use Rattle.effects.specs.Keeps.{IsKeepable}
+use Rattle.effects.specs.Held.{line_at}
+use Rattle.effects.specs.Shown.{lines_with}
+use Rattle.drafts.specs.Shown.{work}
+use Rattle.effects.specs.Sound.{IsSound}
 use Rattle.drafts.proofs.Drafting.{finishes, committed}
 use Rattle.drafts.proofs.SoundWords.{sound-commits, ready-commit}
 use Rattle.drafts.proofs.draft.Draft.commit.Goals as goal

@@ -2,8 +2,9 @@ use Rattle.std.proofs.Common.{List, ap, ◌∙◌}
 use Rattle.farm_base.specs.declared.message.FromCoord.TheVariants as told
 use Rattle.protocol.specs.Machine.{Confirmed}
 use Rattle.protocol.specs.Ledger.{confirms, says, versions_of}
-use Rattle.drafts.specs.declared.effects.Effects.{Effects}
-use Rattle.drafts.specs.Shown.{work, lines_with}
+use Rattle.effects.specs.declared.effects.Effects.{Effects}
+use Rattle.effects.specs.Shown.{lines_with}
+use Rattle.drafts.specs.Shown.{work}
 use Rattle.drafts.proofs.Drafting.{makes-as}
 use Rattle.drafts.proofs.draft.Draft.confirm.Goals as goal
 

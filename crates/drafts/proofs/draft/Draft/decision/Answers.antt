@@ -2,9 +2,10 @@ use Rattle.std.proofs.Common.{◌≡◌, ◌≤◌, ℕ, true, false, refl, ap, 
 use Rattle.protocol.specs.Farm.{farm_limits}
 use Rattle.leases.specs.Table.{fit_of}
 use Rattle.leases.specs.Leases.{Table}
-use Rattle.drafts.specs.declared.effects.Effects.{Effects}
-use Rattle.drafts.specs.Keeps.{held}
-use Rattle.drafts.specs.Shown.{work, table_after}
+use Rattle.effects.specs.declared.effects.Effects.{Effects}
+use Rattle.effects.specs.Keeps.{held}
+use Rattle.effects.specs.Shown.{table_after}
+use Rattle.drafts.specs.Shown.{work}
 use Rattle.drafts.proofs.StateWords.{decision-elsewhere, decision-instances, decision-busy, decision-give, decision-tickets}
 use Rattle.drafts.proofs.draft.Draft.decision.Goals as goal
 

@@ -2,10 +2,10 @@ use Rattle.std.proofs.Common.{◌≡◌, ◌<◌, ◌≤◌, true, false, ap, sy
 use Rattle.protocol.specs.Farm.{farm_limits}
 use Rattle.protocol.specs.Machine.{ToCoord}
 use Rattle.protocol.specs.Ledger.{Work, answering, handled}
-use Rattle.drafts.specs.Idle.{AreHeldUp}
-use Rattle.drafts.specs.Keeps.{IsKeepable}
+use Rattle.effects.specs.Sound.{AreHeldUp}
+use Rattle.effects.specs.Keeps.{IsKeepable}
 use Rattle.drafts.specs.Shown.{work}
-use Rattle.drafts.specs.Sound.{IsSound}
+use Rattle.effects.specs.Sound.{IsSound}
 use Rattle.drafts.proofs.Drafting.{finishes}
 use Rattle.drafts.proofs.Trying.{handled-gone, handled-old, handled-new, handled-same}
 use Rattle.drafts.proofs.HeldUp.{newer_life-held}

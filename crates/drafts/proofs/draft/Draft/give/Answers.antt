@@ -1,13 +1,13 @@
 use Rattle.std.proofs.Common.{◌≡◌, ◌≤◌, ap, sym, ◌∙◌, subst}
 use Rattle.std.specs.Prelude.{All}
-use Rattle.farm_base.specs.Contents.{empty_digest}
+use Rattle.names.specs.Contents.{empty_digest}
 use Rattle.leases.specs.Table.{fit_of}
 use Rattle.leases.specs.declared.lease_table.Fit.{Fit}
 use Rattle.protocol.specs.Farm.{farm_limits}
 use Rattle.protocol.specs.Ledger.{gives, grant_of, lease_for}
-use Rattle.drafts.specs.declared.effects.Effects.{Effects}
-use Rattle.drafts.specs.Keeps.{held}
-use Rattle.drafts.specs.Shown.{work_of, table_after}
+use Rattle.effects.specs.declared.effects.Effects.{Effects}
+use Rattle.effects.specs.Keeps.{held}
+use Rattle.effects.specs.Shown.{work_of, table_after}
 use Rattle.drafts.proofs.draft.Draft.give.Goals as goal
 
 pub give-requires-clause-given : goal.give-requires-clause-given

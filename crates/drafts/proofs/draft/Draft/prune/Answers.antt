@@ -1,5 +1,5 @@
 use Rattle.std.proofs.Common.{◌≡◌, ◌+◌, ◌++◌, ◌∷◌, [], List, true, cond, Option, Some, Ok, ap, sym, ◌∙◌, subst}
-use Rattle.farm_base.specs.Contents.{empty_digest}
+use Rattle.names.specs.Contents.{empty_digest}
 use Rattle.protocol.specs.Farm.{farm_limits}
 use Rattle.holdings.specs.Tickets.{Tickets, advanced}
 use Rattle.protocol.specs.Names.{slot_eq, Ticket}
@@ -8,10 +8,11 @@ use Rattle.protocol.specs.Ledger.{Work}
 use Rattle.versions.specs.declared.lines.Added.{Added}
 use Rattle.versions.specs.declared.lines.SlotLine.{SlotLine}
 use Rattle.versions.specs.Lines.{line_at, lines_with}
-use Rattle.drafts.specs.declared.effects.Effects.{Effects}
-use Rattle.drafts.specs.Keeps.{held}
-use Rattle.drafts.specs.Shown.{LineOf, work, work_of}
-use Rattle.drafts.specs.Sound.{IsSound}
+use Rattle.effects.specs.declared.effects.Effects.{Effects}
+use Rattle.effects.specs.Keeps.{held}
+use Rattle.effects.specs.Shown.{LineOf, work_of}
+use Rattle.drafts.specs.Shown.{work}
+use Rattle.effects.specs.Sound.{IsSound}
 use Rattle.drafts.proofs.Prunes.{pruning, lines-one, ready-one, above-last, sound-prunes}
 use Rattle.drafts.proofs.draft.Draft.prune.Goals as goal
 

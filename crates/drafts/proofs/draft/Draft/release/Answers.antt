@@ -3,9 +3,9 @@ use Rattle.protocol.specs.Farm.{farm_limits}
 use Rattle.protocol.specs.Ledger.{Work, released, retried, notes, lease_under, may_release}
 use Rattle.events.specs.declared.answer.CoordNote.TheVariants as note
 use Rattle.drafts.specs.Idle.{AreIdle}
-use Rattle.drafts.specs.Keeps.{IsKeepable}
+use Rattle.effects.specs.Keeps.{IsKeepable}
 use Rattle.drafts.specs.Shown.{work, ended}
-use Rattle.drafts.specs.Sound.{IsSound}
+use Rattle.effects.specs.Sound.{IsSound}
 use Rattle.drafts.proofs.Drafting.{makes-as, makes-then}
 use Rattle.drafts.proofs.Trying.{may_release-some, released-is, ended-is}
 use Rattle.drafts.proofs.SoundWords.{sound-ends}

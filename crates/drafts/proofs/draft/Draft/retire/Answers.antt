@@ -5,9 +5,9 @@ use Rattle.events.specs.declared.answer.CoordNote.TheVariants as note
 use Rattle.protocol.specs.Ledger.{Work, retired, retried, notes, goes, is_at}
 use Rattle.leases.specs.Leases.{Table}
 use Rattle.drafts.specs.Idle.{AreIdle}
-use Rattle.drafts.specs.Keeps.{IsKeepable}
+use Rattle.effects.specs.Keeps.{IsKeepable}
 use Rattle.drafts.specs.Shown.{work}
-use Rattle.drafts.specs.Sound.{IsSound}
+use Rattle.effects.specs.Sound.{IsSound}
 use Rattle.drafts.proofs.Drafting.{accepts, makes-then}
 use Rattle.drafts.proofs.OwnCalls.{retirement, sound-goes, sound-tries}
 use Rattle.drafts.proofs.draft.Draft.retire.Goals as goal

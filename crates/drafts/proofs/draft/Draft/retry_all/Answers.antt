@@ -6,9 +6,9 @@ use Rattle.farm_base.specs.Wanted.{IsWants}
 use Rattle.protocol.specs.Farm.{farm_limits}
 use Rattle.protocol.specs.Machine.{Parked}
 use Rattle.protocol.specs.Ledger.{Work, parks, try_all, waiting}
-use Rattle.drafts.specs.declared.state.State.{State}
+use Rattle.effects.specs.declared.state.State.{State}
 use Rattle.drafts.specs.Shown.{work}
-use Rattle.drafts.specs.Sound.{IsSound}
+use Rattle.effects.specs.Sound.{IsSound}
 use Rattle.parked.specs.Over.{still_waiting}
 use Rattle.parked.specs.Waiting.{waits_after}
 use Rattle.parked.specs.Queue.{asks_of}

@@ -2,11 +2,11 @@ use Rattle.std.proofs.Common.{◌≡◌, ◌++◌, [], ℕ, List, refl, ap, sym,
 use Rattle.protocol.specs.Farm.{farm_limits}
 use Rattle.protocol.specs.Machine.{Parked}
 use Rattle.protocol.specs.Ledger.{Work, parks, try_all, waiting}
-use Rattle.drafts.specs.declared.state.State.{State}
+use Rattle.effects.specs.declared.state.State.{State}
 use Rattle.drafts.specs.Idle.{AreIdle}
-use Rattle.drafts.specs.Keeps.{IsKeepable}
+use Rattle.effects.specs.Keeps.{IsKeepable}
 use Rattle.drafts.specs.Shown.{work}
-use Rattle.drafts.specs.Sound.{IsSound}
+use Rattle.effects.specs.Sound.{IsSound}
 use Rattle.parked.specs.Over.{still_waiting}
 use Rattle.parked.specs.Queue.{asks_of}
 use Rattle.parked.specs.Waiting.{waits_after}

@@ -3,10 +3,10 @@ use Rattle.protocol.specs.Ledger.{sees}
 use Rattle.protocol.specs.Lists.{put}
 use Rattle.holdings.specs.Leases.{among}
 use Rattle.holdings.specs.Lives.{life_at}
-use Rattle.drafts.specs.Held.{Held}
-use Rattle.drafts.specs.Keeps.{held}
-use Rattle.drafts.specs.Shown.{work_of, with_life}
-use Rattle.drafts.specs.declared.effects.Effects.{Effects}
+use Rattle.effects.specs.Held.{Held}
+use Rattle.effects.specs.Keeps.{held}
+use Rattle.effects.specs.Shown.{work_of, with_life}
+use Rattle.effects.specs.declared.effects.Effects.{Effects}
 use Rattle.drafts.proofs.draft.Draft.see.Goals as goal
 
 pub returns : goal.returns

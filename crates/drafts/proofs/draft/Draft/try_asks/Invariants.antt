@@ -3,7 +3,7 @@ use Rattle.protocol.specs.Farm.{farm_limits}
 use Rattle.protocol.specs.Ledger.{try_all, waiting}
 use Rattle.parked.specs.Over.{Begins, still_at}
 use Rattle.drafts.specs.Shown.{work}
-use Rattle.drafts.specs.Sound.{IsSound}
+use Rattle.effects.specs.Sound.{IsSound}
 use Rattle.drafts.proofs.draft.Draft.try_asks.Given as goal
 
 abbrev pub invariant-loop-place : goal.invariant-loop-place

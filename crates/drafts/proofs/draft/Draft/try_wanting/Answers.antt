@@ -6,14 +6,15 @@ use Rattle.protocol.specs.Machine.{Parked}
 use Rattle.protocol.specs.Ledger.{Work, try_all, waiting, decision, is_free}
 use Rattle.events.specs.declared.answer.Decision.TheVariants.{Wait}
 use Rattle.leaseindex.proofs.MarkLemmas.{drop-item}
-use Rattle.drafts.specs.declared.effects.Effects.{Effects}
-use Rattle.drafts.specs.declared.state.State.{State}
+use Rattle.effects.specs.declared.effects.Effects.{Effects}
+use Rattle.effects.specs.declared.state.State.{State}
 use Rattle.drafts.specs.Idle.{AreIdle}
-use Rattle.drafts.specs.Keeps.{held}
+use Rattle.effects.specs.Keeps.{held}
 use Rattle.parked.specs.Spent.{IsNoted}
 use Rattle.parked.specs.Over.{Begins, AreRising, later_over, still_at}
 use Rattle.parked.specs.Queue.{asks_of}
-use Rattle.drafts.specs.Shown.{work, work_of}
+use Rattle.effects.specs.Shown.{work_of}
+use Rattle.drafts.specs.Shown.{work}
 use Rattle.drafts.proofs.IdleWords.{Passes, idle-unless, waited-passes}
 use Rattle.parked.proofs.OverWords.{begins-zero, begins-later, rising-later, still-more, still-behind}
 use Rattle.drafts.proofs.SoundWords.{sound-unless}

@@ -3,9 +3,9 @@ use Rattle.protocol.specs.Farm.{farm_limits}
 use Rattle.events.specs.declared.answer.CoordNote.TheVariants as note
 use Rattle.protocol.specs.Ledger.{Work, retried, notes, withdrawn}
 use Rattle.drafts.specs.Idle.{AreIdle}
-use Rattle.drafts.specs.Keeps.{IsKeepable}
+use Rattle.effects.specs.Keeps.{IsKeepable}
 use Rattle.drafts.specs.Shown.{work, withdraws_under}
-use Rattle.drafts.specs.Sound.{IsSound}
+use Rattle.effects.specs.Sound.{IsSound}
 use Rattle.drafts.proofs.Drafting.{accepts, makes-then}
 use Rattle.drafts.proofs.OwnCalls.{withdrawal, withdraws-is, sound-withdraws}
 use Rattle.drafts.proofs.SoundWords.{sound-retried}

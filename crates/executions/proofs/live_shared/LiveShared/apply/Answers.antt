@@ -1,7 +1,7 @@
 use Rattle.std.proofs.Common.{◌≡◌, ◌++◌, ◌∷◌, [], List, Some, false, map, set, ap, sym, ◌∙◌, subst}
 use Rattle.std.specs.List.{find, list_any, slice_get}
 use Rattle.std.specs.Option.{option_map}
-use Rattle.farm_base.proofs.NameLaws.{folder_exact}
+use Rattle.names.proofs.NameLaws.{folder_exact}
 use Rattle.folders.specs.Edits.{edited_all}
 use Rattle.lists.proofs.Places.{some_is}
 use Rattle.slotfolders.specs.declared.batch.Batch.{Batch}

@@ -2,7 +2,7 @@ use Rattle.std.proofs.Common.{◌≡◌, List, Some, map, ap, sym, ◌∙◌, su
 use Rattle.std.specs.List.{remove, slice_get}
 use Rattle.std.specs.Option.{option_map}
 use Rattle.std.proofs.lemmas.Option.{slice_get_within, slice_get-map, get_or_from_slice_get}
-use Rattle.farm_base.proofs.NameLaws.{folder_exact}
+use Rattle.names.proofs.NameLaws.{folder_exact}
 use Rattle.folders.specs.Files.{folder_bytes}
 use Rattle.executions.specs.declared.live_shared.Open.{Open}
 use Rattle.executions.specs.Live.{Live, is_named, files_of}

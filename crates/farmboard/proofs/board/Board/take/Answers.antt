@@ -1,5 +1,5 @@
 use Rattle.std.proofs.Common.{◌≡◌, ◌<◌, List, ℕ, length, ap, subst, ◌∙◌, arith}
-use Rattle.farm_base.specs.declared.limits.TheConstants.{EVENTS}
+use Rattle.names.specs.declared.limits.TheConstants.{EVENTS}
 use Rattle.protocol.specs.Ledger.{Lease}
 use Rattle.world.specs.Shown.{shown}
 use Rattle.farmhistory.specs.declared.uses.InUse.{InUse}

@@ -1,6 +1,6 @@
 use Rattle.std.proofs.Common.{◌≡◌, List, subst}
 use Rattle.std.specs.List.{insert}
-use Rattle.farm_base.specs.declared.number.NodeId.{NodeId}
+use Rattle.names.specs.declared.number.NodeId.{NodeId}
 use Rattle.holdings.specs.Places.{IsPlace, IsGap}
 use Rattle.holdings.proofs.NodeLemmas.{numbers, among-place, among-again, among-insert, nodes-insert}
 use Rattle.holdings.proofs.retired_nodes.RetiredNodes.insert.Goals as goal

@@ -1,5 +1,5 @@
 use Rattle.std.proofs.Common.{◌≤◌, ◌∙◌, ℕ, List, IsSomeAnd, ap, subst}
-use Rattle.farm_base.specs.declared.digest.Key.{Key}
+use Rattle.names.specs.declared.digest.Key.{Key}
 use Rattle.jobs.specs.History.{History}
 use Rattle.jobs.specs.Kept.{history}
 use Rattle.keytable.specs.Needs.{NeedsOutput}

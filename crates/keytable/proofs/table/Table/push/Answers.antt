@@ -1,5 +1,5 @@
 use Rattle.std.proofs.Common.{◌∙◌, ◌++◌, ◌∷◌, [], List, ap, sym, append-nil, map}
-use Rattle.farm_base.specs.declared.digest.Key.{Key}
+use Rattle.names.specs.declared.digest.Key.{Key}
 use Rattle.keytable.specs.declared.entry.Entry.{Entry}
 use Rattle.keytable.specs.declared.entry.Progress.TheVariants.{Waiting}
 use Rattle.keytable.specs.Tables.{key_of}

@@ -1,7 +1,7 @@
 use Rattle.std.proofs.Common.{◌≡◌, ◌++◌, ◌&&◌, ◌||◌, ℕ, List, eqb, ap, subst, sym, ◌∙◌}
 use Rattle.std.specs.List.{list_any}
 use Rattle.std.specs.Map.{update_all}
-use Rattle.farm_base.specs.Folders.{folder_eq}
+use Rattle.names.specs.Folders.{folder_eq}
 use Rattle.farm_base.specs.declared.lease.Lease.{Lease}
 use Rattle.protocol.specs.Names.{FolderName}
 use Rattle.leaseindex.specs.Counts.{AreCounted}

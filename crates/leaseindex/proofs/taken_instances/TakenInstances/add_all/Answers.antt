@@ -1,5 +1,5 @@
 use Rattle.std.proofs.Common.{ℕ, ◌&&◌, eqb, ◌∙◌, arith, length-append}
-use Rattle.farm_base.specs.Folders.{folder_eq}
+use Rattle.names.specs.Folders.{folder_eq}
 use Rattle.protocol.specs.Names.{FolderName}
 use Rattle.leaseindex.proofs.TakenLemmas.{any_push}
 use Rattle.leaseindex.proofs.taken_instances.TakenInstances.add_all.Goals as goal

@@ -1,6 +1,6 @@
 use Rattle.std.proofs.Common.{◌≡◌, ℕ, ◌+◌, ◌≤◌, ◌&&◌, ◌||◌, eqb, length, vec_len}
 use Rattle.std.specs.List.{list_any}
-use Rattle.farm_base.specs.Folders.{folder_eq}
+use Rattle.names.specs.Folders.{folder_eq}
 use Rattle.protocol.specs.Names.{FolderName}
 use Rattle.leaseindex.specs.Instances.{is_taken, folder_room}
 use Rattle.leaseindex.proofs.taken_instances.TakenInstances.add_all.Given as goal

@@ -7,11 +7,11 @@ use Rattle.saverecord.specs.LogEntries.{IsLogEntry}
 use Rattle.saverecord.specs.Logs.{Holds, IsSaved}
 use Rattle.saverecord.specs.Texts.{Texts, with_text}
 use Rattle.saverecord.proofs.LogLaws.{change_is_entry, entry_holds}
-use Rattle.drafts.specs.declared.effects.Effects.{Effects}
-use Rattle.drafts.specs.Held.{Held, ledger}
-use Rattle.drafts.specs.Keeps.{held}
-use Rattle.drafts.specs.Shown.{work_of}
-use Rattle.drafts.specs.Sound.{IsRightful}
+use Rattle.effects.specs.declared.effects.Effects.{Effects}
+use Rattle.effects.specs.Held.{Held, ledger}
+use Rattle.effects.specs.Keeps.{held}
+use Rattle.effects.specs.Shown.{work_of}
+use Rattle.effects.specs.Sound.{IsRightful}
 use Rattle.ledger.proofs.Entries.{rightful_saves}
 use Rattle.ledger.proofs.ledger.Ledger.entry_bytes.Goals as goal
 

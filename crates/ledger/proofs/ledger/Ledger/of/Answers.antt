@@ -1,5 +1,5 @@
 use Rattle.std.proofs.Common.{sym, subst}
-use Rattle.drafts.specs.Sound.{IsRightful}
+use Rattle.effects.specs.Sound.{IsRightful}
 use Rattle.ledger.proofs.Records.{rightful_of}
 use Rattle.ledger.proofs.ledger.Ledger.of.Goals as goal
 

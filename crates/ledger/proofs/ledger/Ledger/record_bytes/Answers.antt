@@ -5,11 +5,11 @@ use Rattle.saverecord.specs.Ledgers.{ledger_of}
 use Rattle.saverecord.specs.Logs.{Holds}
 use Rattle.saverecord.specs.Texts.{whole_alone}
 use Rattle.versions.specs.Additions.{IsReady}
-use Rattle.drafts.specs.Held.{Held}
-use Rattle.drafts.specs.declared.effects.Effects.{Effects}
-use Rattle.drafts.specs.Keeps.{held}
-use Rattle.drafts.specs.Shown.{work_of}
-use Rattle.drafts.specs.Sound.{IsRightful}
+use Rattle.effects.specs.Held.{Held}
+use Rattle.effects.specs.declared.effects.Effects.{Effects}
+use Rattle.effects.specs.Keeps.{held}
+use Rattle.effects.specs.Shown.{work_of}
+use Rattle.effects.specs.Sound.{IsRightful}
 use Rattle.saverecord.proofs.LogLemmas.{whole_holds}
 use Rattle.ledger.proofs.Records.{saves_again}
 use Rattle.ledger.proofs.ledger.Ledger.record_bytes.Goals as goal

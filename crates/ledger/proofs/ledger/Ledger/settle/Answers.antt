@@ -4,15 +4,15 @@ use Rattle.protocol.specs.Ledger.{Ledger, Work, saves}
 use Rattle.events.specs.declared.answer.CoordRefusal.{CoordRefusal}
 use Rattle.events.specs.declared.answer.CoordRefusal.TheVariants.{SaveFault, OutOfMemory}
 use Rattle.saverecord.specs.Logs.{Holds}
-use Rattle.drafts.specs.declared.state.State.{State}
-use Rattle.drafts.specs.declared.effects.Effects.{Effects}
+use Rattle.effects.specs.declared.state.State.{State}
+use Rattle.effects.specs.declared.effects.Effects.{Effects}
 use Rattle.parked.specs.declared.spent_folders.SpentFolders.{SpentFolders}
-use Rattle.drafts.specs.Held.{Held, line_at, ledger}
-use Rattle.drafts.specs.Keeps.{held, IsKeepable}
+use Rattle.effects.specs.Held.{Held, line_at, ledger}
+use Rattle.effects.specs.Keeps.{held, IsKeepable}
 use Rattle.ledger.specs.Seen.{IsKeeping}
 use Rattle.ledger.specs.Settling.{Answers, OnlyGrow, is_save_fault}
-use Rattle.drafts.specs.Shown.{LineOf, after, work_of, lines_with}
-use Rattle.drafts.specs.Sound.{IsRightful}
+use Rattle.effects.specs.Shown.{LineOf, after, work_of, lines_with}
+use Rattle.effects.specs.Sound.{IsRightful}
 use Rattle.parked.specs.Spent.{AreNoted}
 use Rattle.ledger.proofs.Growing.{grows, stays}
 use Rattle.ledger.proofs.Keeping.{holds_after, saved_ok, saved_not}

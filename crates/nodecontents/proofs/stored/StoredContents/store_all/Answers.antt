@@ -1,5 +1,5 @@
 use Rattle.std.proofs.Common.{ap, sym, ◌∙◌, arith, length-append}
-use Rattle.farm_base.specs.Contents.{content_digest}
+use Rattle.names.specs.Contents.{content_digest}
 use Rattle.nodecontents.specs.Stored.{store_in, store_one}
 use Rattle.nodecontents.proofs.MapLemmas.{stored-push}
 use Rattle.nodecontents.proofs.stored.StoredContents.store_all.Goals as goal

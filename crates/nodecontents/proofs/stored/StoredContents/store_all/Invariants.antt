@@ -1,6 +1,6 @@
 use Rattle.std.proofs.Common.{◌≡◌, ◌+◌, ◌≤◌, length, vec_len}
 use Rattle.indexmap.specs.IndexMap.{spare}
-use Rattle.farm_base.specs.Contents.{content_digest}
+use Rattle.names.specs.Contents.{content_digest}
 use Rattle.protocol.specs.Nodes.{stored}
 use Rattle.nodecontents.specs.Stored.{store_in}
 use Rattle.nodecontents.proofs.stored.StoredContents.store_all.Given as goal

@@ -1,5 +1,5 @@
 use Rattle.std.proofs.Common.{List, ℕ, ap, ◌∙◌}
-use Rattle.farm_base.specs.Contents.{content_digest}
+use Rattle.names.specs.Contents.{content_digest}
 use Rattle.protocol.specs.World.{first_node}
 use Rattle.nodecontents.specs.Stored.{store_each}
 use Rattle.nodecontents.proofs.StoredLemmas.{stored_are}

@@ -1,6 +1,6 @@
 use Rattle.std.proofs.Common.{◌≡◌, false, true, nat_lt, length, not, Ok, ap, sym, ◌∙◌, rules, arith}
 use Rattle.std.specs.List.{list_any}
-use Rattle.farm_base.specs.declared.folder.Mode.TheVariants.{Shared}
+use Rattle.names.specs.declared.folder.Mode.TheVariants.{Shared}
 use Rattle.protocol.specs.Nodes.{NodeWork, is_tenure_of, opens}
 use Rattle.nodecore.specs.Shown.{shown, place}
 use Rattle.nodecore.proofs.NodeLemmas.{passes, has_room}

@@ -1,6 +1,6 @@
 use Rattle.std.proofs.Common.{◌≡◌, false, true, is_some, ap, sym, ◌∙◌, rules}
 use Rattle.std.specs.List.{list_any}
-use Rattle.farm_base.specs.Contents.{content_digest}
+use Rattle.names.specs.Contents.{content_digest}
 use Rattle.protocol.specs.World.{keep}
 use Rattle.protocol.specs.Names.{Digest}
 use Rattle.protocol.specs.Nodes.{is_base}

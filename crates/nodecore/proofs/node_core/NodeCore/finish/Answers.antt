@@ -1,7 +1,7 @@
 use Rattle.std.proofs.Common.{◌≡◌, ◌+◌, List, true, false, refl, ap, sym, ◌∙◌, rules, arith}
 use Rattle.protocol.specs.Nodes.{running, in_use}
 use Rattle.nodeasks.specs.Asks.{is_in_use, slots_in}
-use Rattle.farm_base.specs.Contents.{content_digest}
+use Rattle.names.specs.Contents.{content_digest}
 use Rattle.protocol.specs.Machine.{GrantedSlot, slots_of, written}
 use Rattle.protocol.specs.Names.{slots_eq}
 use Rattle.protocol.specs.Nodes.{Left, news_of}

@@ -1,6 +1,6 @@
 use Rattle.std.proofs.Common.{rules, ◌≡◌, true, not, List, filter, sym, ap, subst}
 use Rattle.std.proofs.lemmas.Fn.{filter_same}
-use Rattle.farm_base.specs.Digests.{digest_eq}
+use Rattle.names.specs.Digests.{digest_eq}
 use Rattle.protocol.specs.Names.{Digest}
 use Rattle.nodestore.specs.Stores.{Filed}
 use Rattle.nodestore.proofs.FiledLemmas.{is_among, still_among}

@@ -1,6 +1,6 @@
 use Rattle.std.proofs.Common.{ℕ, Some, cond, [], ◌∷◌, ◌++◌, sym, ap, ◌∙◌}
 use Rattle.ordering.specs.declared.table.Table.{Table}
-use Rattle.farm_base.specs.Digests.{digest_eq}
+use Rattle.names.specs.Digests.{digest_eq}
 use Rattle.ordering.specs.Firsts.{number_in}
 use Rattle.ordering.proofs.TableLemmas.{table_more, not_some}
 use Rattle.ordering.proofs.table.Table.add.Goals as goal

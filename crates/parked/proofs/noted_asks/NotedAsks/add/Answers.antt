@@ -1,6 +1,6 @@
 use Rattle.std.proofs.Common.{refl, ap, ◌∙◌}
 use Rattle.indexmap.specs.IndexMap.{get}
-use Rattle.farm_base.specs.Folders.{folder_eq}
+use Rattle.names.specs.Folders.{folder_eq}
 use Rattle.protocol.specs.Names.{FolderName}
 use Rattle.parked.specs.declared.noted_asks.NotedAsks.{NotedAsks}
 use Rattle.parked.proofs.NotedWords.{keeps-folder, none-kept}

@@ -1,7 +1,7 @@
 use Rattle.std.proofs.Common.{[], ◌∷◌, ◌++◌, refl, ◌∙◌, ap, inl}
 use Rattle.std.specs.Prelude.{List}
-use Rattle.farm_base.specs.Folders.{folder_eq}
-use Rattle.farm_base.proofs.CompareLaws.{folder_eq-itself}
+use Rattle.names.specs.Folders.{folder_eq}
+use Rattle.names.proofs.CompareLaws.{folder_eq-itself}
 use Rattle.protocol.specs.Names.{FolderName}
 use Rattle.protocol.proofs.Base.{any_in, in_right}
 use Rattle.parked.specs.Spent.{is_noted}

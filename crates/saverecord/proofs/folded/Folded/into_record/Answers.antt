@@ -2,8 +2,8 @@ use Rattle.std.proofs.Common.{◌≡◌, true, List, ap, sym, subst, ◌∙◌}
 use Rattle.std.specs.List.{list_all}
 use Rattle.std.specs.List.Sorted.{IsStrictlyIncreasing, IsStrictlySortedBy}
 use Rattle.std.specs.Prelude.{map}
-use Rattle.farm_base.specs.Slots.{slot_cmp}
-use Rattle.farm_base.specs.declared.number.NodeId.{NodeId}
+use Rattle.names.specs.Slots.{slot_cmp}
+use Rattle.names.specs.declared.number.NodeId.{NodeId}
 use Rattle.holdings.specs.Lives.{AreLives}
 use Rattle.holdings.specs.Leases.{among}
 use Rattle.holdings.specs.Lives.{is_among, life_at}

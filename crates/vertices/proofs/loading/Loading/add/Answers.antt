@@ -3,8 +3,8 @@ use Rattle.std.specs.List.{AllByRecursion, AllZip, slice_get, Contains}
 use Rattle.std.specs.Option.{IfSome}
 use Rattle.std.proofs.lemmas.List.{length-map, length-take-le}
 use Rattle.std.proofs.lemmas.Option.{slice_get-get_or}
-use Rattle.farm_base.specs.declared.digest.Digest.{Digest}
-use Rattle.farm_base.specs.Digests.{IsDigest}
+use Rattle.names.specs.declared.digest.Digest.{Digest}
+use Rattle.names.specs.Digests.{IsDigest}
 use Rattle.ordering.specs.Firsts.{IsTable, places_in}
 use Rattle.vertices.specs.declared.vertex.Source.{Source}
 use Rattle.vertices.specs.Asked.{Asks}

@@ -1,4 +1,4 @@
-use Rattle.farm_base.specs.Contents.{content_digest}
+use Rattle.names.specs.Contents.{content_digest}
 use Rattle.saverecord.specs.Logs.{saved_in}
 use Rattle.protocol.specs.Replay.{opening}
 use Rattle.world.proofs.SeatLemmas.{all_first}

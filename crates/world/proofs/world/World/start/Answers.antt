@@ -1,6 +1,6 @@
 use Rattle.std.proofs.Common.{[], sym, subst, rules}
-use Rattle.farm_base.specs.Contents.{content_digest}
-use Rattle.farm_base.specs.declared.limits.TheConstants.{NODES}
+use Rattle.names.specs.Contents.{content_digest}
+use Rattle.names.specs.declared.limits.TheConstants.{NODES}
 use Rattle.protocol.specs.Farm.{farm_limits}
 use Rattle.protocol.specs.Follows.{SafeAfter}
 use Rattle.protocol.specs.Lawful.{IsLawfulFarm}

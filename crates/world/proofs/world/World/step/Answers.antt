@@ -1,7 +1,7 @@
 use Rattle.std.proofs.Common.{◌≡◌, Result, subst, sym}
 use Rattle.std.proofs.Math.Logic.{∥∥₁_map}
-use Rattle.farm_base.specs.Contents.{content_digest}
-use Rattle.farm_base.specs.declared.limits.TheConstants.{NODES}
+use Rattle.names.specs.Contents.{content_digest}
+use Rattle.names.specs.declared.limits.TheConstants.{NODES}
 use Rattle.protocol.specs.Farm.{farm_limits}
 use Rattle.protocol.specs.Lawful.{IsLawfulFarm}
 use Rattle.protocol.specs.Replay.{Farm, step}

@@ -1,0 +1,12 @@
+//! What a coordinator keeps, and what an event changes of it, adds to the lines, sends and tells.
+#![tactic(auto)]
+
+mod change;
+mod effects;
+mod new_life;
+mod state;
+
+pub use change::Change;
+pub use effects::{Effects, Prepared};
+pub use new_life::NewLife;
+pub use state::State;

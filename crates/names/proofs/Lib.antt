@@ -1,0 +1,9 @@
+pub mod CompareLaws
+pub mod DigestLemmas
+pub mod EscapeLemmas
+pub mod FolderLemmas
+pub mod ReadingLemmas
+pub mod TextLemmas
+pub mod NameLemmas
+pub mod SlotLemmas
+pub mod NameLaws
