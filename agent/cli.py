@@ -322,16 +322,7 @@ def do_get(args: argparse.Namespace) -> int:
     index = store.index(found[-1]["digest"])
     if index is None:
         raise FarmFault(f"the content of version {found[-1]['version']} isn't in the store any more")
-    to = os.path.abspath(args.to)
-    was_there = os.path.isdir(to)
-    try:
-        trees.extract(store, index, to)
-    except BaseException:
-        for name in os.listdir(to) if os.path.isdir(to) else []:
-            trees.remove(f"{to}/{name}")
-        if os.path.isdir(to) and not was_there:
-            os.rmdir(to)
-        raise
+    trees.extract_whole(store, index, os.path.abspath(args.to))
     return 0
 
 

@@ -83,7 +83,7 @@ def check(wanted: Wanted) -> None:
     if wanted.lease_timeout is not None and wanted.lease_timeout < SILENT_LEAST:
         raise UsageFault(f"a node that is well may be silent for some seconds: --lease-timeout is at least {SILENT_LEAST:g}")
     if not wanted.broker and os.path.exists(mark):
-        raise UsageFault(f"{home} is of a farm over a broker. Where that farm is no more, remove {mark}")
+        raise UsageFault(f"{home} is of a farm over a broker. If that farm is gone, remove {mark}")
     if wanted.broker and not os.path.exists(f"{home}/key") and not wanted.coordinator:
         raise UsageFault(f"{home}/key is missing: copy it from the coordinator's machine, by a way that nobody else can read")
 

@@ -128,6 +128,20 @@ def extract(store: Store, index: bytes, path: str, lock: int | None = None) -> N
     _show_excludes(path)
 
 
+def extract_whole(store: Store, index: bytes, path: str) -> None:
+    """Makes a path, which is free or an empty folder, what an index says, or leaves it as it was."""
+    was_there = os.path.isdir(path)
+    try:
+        extract(store, index, path)
+    except BaseException:
+        if os.path.isdir(path):
+            for name in os.listdir(path):
+                remove(f"{path}/{name}")
+            if not was_there:
+                os.rmdir(path)
+        raise
+
+
 def is_folder(path: str) -> bool:
     return os.path.isdir(path) and not os.path.islink(path)
 

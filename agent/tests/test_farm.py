@@ -67,17 +67,6 @@ class Alone(support.FarmTest):
         self.farm("run", "--folder", "locked:c=w", "--", "sh", "-c", "ls w > seen")
         self.assertEqual(self.read("seen"), "")
 
-    def test_streams(self) -> None:
-        """What its caller has closed a command finds empty, and may write to; a full disk is a fault."""
-        words = [*support.FARM, "run", "--", "sh", "-c", "cat; echo out; sleep 0.5; echo err >&2"]
-        closed = subprocess.run(["sh", "-c", 'exec "$@" <&- >&-', "sh", *words], env=self.env, stderr=subprocess.PIPE, text=True, timeout=60)
-        self.assertEqual((closed.returncode, closed.stderr.splitlines()[-1]), (0, "err"))
-        closed = subprocess.run(["sh", "-c", 'exec "$@" 2>&-', "sh", *words], env=self.env, stdin=subprocess.DEVNULL, stdout=subprocess.PIPE, text=True, timeout=60)
-        self.assertEqual((closed.returncode, closed.stdout), (0, "out\n"))
-        for verb in ("status", "--help"):
-            full = subprocess.run(["sh", "-c", 'exec "$@" >/dev/full', "sh", *support.FARM, verb], env=self.env, stderr=subprocess.PIPE, text=True)
-            self.assertEqual((full.returncode, full.stderr), (70, "farm: the standard output: No space left on device\n"))
-
     def lost(self) -> None:
         """What can't be shown whole isn't shown."""
         os.rename(f"{self.home}/contents/chunks", self.path("chunks"))
@@ -332,6 +321,9 @@ class Streams(support.FarmTest):
         for closed in (">&-", "2>&-", "<&- >&- 2>&-"):
             self.assertEqual(self.shell(f'exec "$@" {closed}', *command).returncode, 4, closed)
         self.assertEqual(self.shell('exec "$@"', "run", "--", "sh").returncode, 8)
+        for verb in ("status", "--help"):
+            full = self.shell('exec "$@" >/dev/full', verb)
+            self.assertEqual((full.returncode, full.stderr), (70, "farm: the standard output: No space left on device\n"))
 
     def test_gone(self) -> None:
         self.start("2>/dev/full >/dev/null")

@@ -175,7 +175,7 @@ one_list whole bytes (e ∷ es) others behind rest h k =
 
 -- ---- while a file is read
 
--- of these bytes so many entries were taken, and these are left
+-- of these bytes `count` entries were taken, and `rest` is left
 pub record SoFar (old : Texts) (bytes rest : List ℕ) (now : Texts) (count : ℕ) : Type 0 where
   pub entries : List (List ℕ)
   pub counted : length entries ≡ count
