@@ -5,6 +5,7 @@ import contextlib
 import io
 import os
 import shutil
+import signal
 import socket
 import subprocess
 import sys
@@ -107,10 +108,15 @@ class FarmTest(RoomTest):
         return started
 
     def begin(self, *words: str) -> subprocess.Popen[str]:
-        return subprocess.Popen(
-            [*FARM, *words], env=self.env, stdin=subprocess.DEVNULL, stdout=subprocess.PIPE,
-            stderr=subprocess.PIPE, text=True, cwd=self.room,
-        )
+        """Starts a command that hears Ctrl-C, also where these tests run in the background and ignore it."""
+        ignored = signal.signal(signal.SIGINT, signal.default_int_handler)
+        try:
+            return subprocess.Popen(
+                [*FARM, *words], env=self.env, stdin=subprocess.DEVNULL, stdout=subprocess.PIPE,
+                stderr=subprocess.PIPE, text=True, cwd=self.room,
+            )
+        finally:
+            signal.signal(signal.SIGINT, ignored)
 
     def asked(self, *words: str, status: int = 0) -> str:
         """What a command that runs nothing says, in this process: that is faster."""
