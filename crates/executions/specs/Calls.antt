@@ -15,9 +15,9 @@ Adds key old (Done outputs edits) new = new ≡ old ++ call key (Ok outputs) ∷
 Adds key old (Failed status) new = new ≡ old ++ call key (Err status) ∷ []
 Adds key old OutOfMemory new = new ≡ old
 
--- no call was made, or one
-abbrev pub MadeOneAtMost : List Call → List Call → Type 0
-MadeOneAtMost old new = (new ≡ old) ⊎ ((c : Call) × (new ≡ old ++ c ∷ []))
+-- no call was made, or one, for this key
+abbrev pub MadeOneAtMost : Key → List Call → List Call → Type 0
+MadeOneAtMost key old new = (new ≡ old) ⊎ ((outcome : ExecOutcome) × Adds key old outcome new)
 
 -- these calls, and some later ones
 abbrev pub Grew : List Call → List Call → Type 0

@@ -1,7 +1,8 @@
 -- What the executor of a lease is given (this project's own).
-use Rattle.std.specs.Prelude.{◌≡◌, ℕ, ℤ, pos, negsuc, List, Option, Some, None, slice_get}
+use Rattle.std.specs.Prelude.{◌≡◌, ◌⊎◌, ℕ, ℤ, pos, negsuc, List, Option, Some, None, slice_get}
 use Rattle.std.specs.List.{AllZip}
 use Rattle.names.specs.declared.digest.Digest.{Digest}
+use Rattle.names.specs.declared.digest.Key.{Key}
 use Rattle.names.specs.declared.folder.FolderName.{FolderName}
 use Rattle.farm_base.specs.declared.want.Want.{Want}
 use Rattle.opsproto.specs.Scalars.{Text}
@@ -16,6 +17,8 @@ use Rattle.cachemounts.specs.declared.viewing.CacheView.{CacheView}
 use Rattle.cachemounts.specs.CacheViews.{AreViews}
 use Rattle.folders.specs.Files.{Files}
 use Rattle.jobs.specs.declared.task.Task.{Task}
+use Rattle.executions.specs.Calls.{Adds}
+use Rattle.executions.specs.declared.call.Call.{Call}
 use Rattle.executions.specs.declared.call.ExecOutcome.{ExecOutcome}
 use Rattle.executions.specs.declared.task.View.{View}
 use Rattle.executions.specs.TaskParts.{TaskParts}
@@ -61,3 +64,9 @@ pub record IsGiven (k : KeyedParts) (number : ℕ) (task : Task) (seen : FolderN
 -- the outcome is an answer to what was given
 abbrev pub Answered : (TaskParts → Type 0) → (TaskParts → ExecOutcome → Type 0) → ExecOutcome → Type 0
 Answered IsGiven answers outcome = (given : TaskParts) × IsGiven given × answers given outcome
+
+-- nothing was called, or the executor once for the key, with such a task: the outcome is its answer
+abbrev pub CalledOnceAtMost : Key → (TaskParts → Type 0) → (TaskParts → ExecOutcome → Type 0) → List Call → List Call
+    → Type 0
+CalledOnceAtMost key IsGiven answers old new =
+    (new ≡ old) ⊎ ((outcome : ExecOutcome) × Adds key old outcome new × Answered IsGiven answers outcome)

@@ -1,5 +1,5 @@
 -- The SHARED folders that a node has open, and the batches that changed them (this project's own).
-use Rattle.std.specs.Prelude.{⊤, ◌≡◌, ℕ, ◌<◌, Bool, true, false, List, [], ◌∷◌, ◌++◌, length, drop, Option, Some, None, Result, Ok, Err, slice_get}
+use Rattle.std.specs.Prelude.{⊤, IsOk, ◌≡◌, ℕ, ◌<◌, Bool, true, false, List, [], ◌∷◌, ◌++◌, length, drop, Option, Some, None, Result, Ok, Err, slice_get}
 use Rattle.std.specs.List.{fold, find, list_any, remove}
 use Rattle.std.specs.Option.{option_map}
 use Rattle.names.specs.declared.folder.FolderName.{FolderName}
@@ -50,10 +50,10 @@ pub record IsTenureOf (r : Running) (f : FolderName) : Type 0 where
   pub shared : f.mode ≡ Shared
   pub wants : r.wants ≡ record { folder = f; writable = true } ∷ []
 
--- the folder is open from now on, unless a content of its tenure isn't folder bytes
+-- the folder is open from now on, with the files that its tenure's contents spell, unless one of these isn't folder bytes
 abbrev pub Opens : Live → FolderName → Running → Result ⊤ (Running × SharedRefusal) → Live → Type 0
-Opens old f r (Ok tt) new =
-    new ≡ record old { folders = old.folders ++ record { folder = f; running = r; since = length old.batches } ∷ [] }
+Opens old f r (Ok tt) new = IsOk (read_all (held r))
+    × (new ≡ record old { folders = old.folders ++ record { folder = f; running = r; since = length old.batches } ∷ [] })
 Opens old f r (Err (token, BadContents)) new = ((slot : _) × (read_all (held r) ≡ Err slot)) × (token ≡ r) × (new ≡ old)
 Opens old f r (Err (token, OutOfMemory)) new = (token ≡ r) × (new ≡ old)
 Opens old f r (Err (token, Twice)) new = ⊥

@@ -1,4 +1,4 @@
-ghost use Rattle.std.specs.Prelude.{◌≡◌};
+ghost use Rattle.std.specs.Prelude.{◌≡◌, IsTrue};
 
 use super::call::{Call, ExecOutcome};
 use super::task::ExecTask;
@@ -38,7 +38,9 @@ pub trait Gate: Sync {
 pub struct OpenGate;
 
 impl Gate for OpenGate {
-    fn pass(&self, _node: NodeId, _key: &Key) -> bool {
+    fn pass(&self, _node: NodeId, _key: &Key) -> bool
+        ensures { IsTrue result }
+    {
         true
     }
 }

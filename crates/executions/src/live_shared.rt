@@ -1,5 +1,5 @@
 //! The SHARED folders that a node has open.
-ghost use Rattle.std.specs.Prelude.{◌≡◌, ◌<◌, [], map, length, Some, None, Err, slice_get, set, vec_len, IfOk, IfErr, IfSome, IfNone, OnErr, OnOk, is_some};
+ghost use Rattle.std.specs.Prelude.{◌≡◌, ◌<◌, [], map, length, Some, None, Err, slice_get, set, vec_len, IfOk, IfErr, IfSome, IfNone, IsOk, OnErr, OnOk, is_some};
 ghost use Rattle.std.specs.List.{find};
 ghost use Rattle.names.specs.Slots.{SlotParts};
 ghost use Rattle.names.specs.declared.folder.FolderName.{FolderName as Name};
@@ -122,6 +122,7 @@ impl LiveShared {
         files: Folder,
     ) -> Result<(), (Running, SharedRefusal)>
         requires closed { files_in self.old folder ≡ None }
+        requires read { IsOk (read_all (held running)) }
         requires files { files ≡ folder_at (leased running) folder }
         ensures { Opens self.old folder running result self.new }
     {
@@ -233,6 +234,7 @@ fn change(
 fn first_files(alloc: Global, running: &Running) -> Result<(FolderName, Folder), SharedRefusal>
     requires { (folder : Name) × IsTenureOf running.now folder }
     ensures files { IfOk result (λ made. IsTenureOf running.now made.0 × (made.1 ≡ folder_at (leased running.now) made.0)) }
+    ensures read { IfOk result (λ made. IsOk (read_all (held running.now))) }
     ensures bad { result ≡ Err SharedRefusal.BadContents → (slot : SlotParts) × (read_all (held running.now) ≡ Err slot) }
     ensures refusals { IfErr result IsFirstRefusal }
 {

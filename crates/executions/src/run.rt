@@ -6,10 +6,10 @@ ghost use Rattle.names.specs.declared.folder.Mode.TheVariants.{Shared};
 ghost use Rattle.vertices.specs.Edges.{list_at};
 ghost use Rattle.cachemounts.specs.CacheWants.{AreWants};
 ghost use Rattle.executions.specs.declared.call.ExecOutcome.{ExecOutcome as AnyOutcome};
-ghost use Rattle.executions.specs.Calls.{Adds, MadeOneAtMost, IsAnswer};
+ghost use Rattle.executions.specs.Calls.{Adds, IsAnswer};
 ghost use Rattle.executions.specs.Leased.{held, leased};
 ghost use Rattle.slotfolders.specs.Seen.{read_all, folder_seen};
-ghost use Rattle.executions.specs.Given.{IsGiven, Answered};
+ghost use Rattle.executions.specs.Given.{IsGiven, Answered, CalledOnceAtMost};
 ghost use Rattle.executions.specs.Left.{is_fit, news_of};
 
 use super::call::ExecOutcome;
@@ -69,8 +69,9 @@ pub fn run_leased(
     requires inputs { length (list_at keyed.now.graph.edges vertex) ≡ length task.now.inputs.items }
     requires wants { AreWants keyed.now.graph keyed.now.keys vertex running.now.wants }
     requires shared { All (λ want. want.folder.mode ≡ Shared → Contains (map (λ folder. folder.0) shared.items) want.folder) running.now.wants }
-    // The executor is called once at most.
-    ensures once { MadeOneAtMost (history executor.old) (history executor.new) }
+    // The executor is called once at most, with exactly the task of the lease.
+    ensures once { CalledOnceAtMost task.now.key (IsGiven keyed.now vertex task.now (folder_seen (leased running.now) shared.items) running.now.wants)
+        (answers executor.old) (history executor.old) (history executor.new) }
     // The outcome is its answer to the task of the lease, and its calls have that one more.
     ensures answer { IfOk result (λ ran. IsAnswer ran.outcome) }
     ensures calls { IfOk result (λ ran. Adds task.now.key (history executor.old) ran.outcome (history executor.new)) }

@@ -1,4 +1,4 @@
-ghost use Rattle.std.specs.Prelude.{◌≡◌, ◌++◌, ◌∷◌, ℕ, [], List, Some, length, if◌then◌else◌, OnOk, IfOk, IfSome, IfNone, slice_get};
+ghost use Rattle.std.specs.Prelude.{◌≡◌, ◌++◌, ◌∷◌, ℕ, [], List, Some, length, if◌then◌else◌, OnOk, IfOk, IfSome, IfNone, slice_get, OnErr};
 
 use names::Digest;
 use std::alloc::{AllocError, Global};
@@ -42,12 +42,15 @@ impl Table {
         ensures table { OnOk result ((digests : List Digest) → length digests ≡ place → IsTable digests self.old
             → IsTable (digests ++ digest ∷ []) self.new) }
         ensures places { IfOk result (λ new. places_in self.new ≡ (if new then places_in self.old ++ place ∷ [] else places_in self.old)) }
+        ensures err { OnErr result ((places_in self.new ≡ places_in self.old) × ((wanted : Digest) → number_in self.new wanted ≡ number_in self.old wanted)) }
     {
         if self.numbers.contains_key(&digest) {
             return Ok(false);
         }
-        self.numbers.insert(digest, self.places.len())?;
-        self.places.push(place)?;
+        let number = self.places.len();
+        self.places.reserve(1)?;
+        self.numbers.insert(digest, number)?;
+        self.places.push_reserved(place);
         Ok(true)
     }
 

@@ -1,11 +1,12 @@
 -- The vertex of a task, and what its execution is given (this project's own).
 use Rattle.std.specs.Prelude.{◌≡◌, ◌<◌, List, length, map, Some, slice_get}
-use Rattle.std.specs.List.{Contains}
+use Rattle.std.specs.List.{All, Contains}
 use Rattle.names.specs.declared.digest.Key.{Key}
 use Rattle.names.specs.declared.folder.FolderName.{FolderName}
 use Rattle.names.specs.declared.folder.Mode.TheVariants.{Shared}
 use Rattle.farm_base.specs.declared.want.Want.{Want}
 use Rattle.folders.specs.Files.{Files}
+use Rattle.executions.specs.Live.{Live, files_in}
 use Rattle.vertices.specs.Edges.{list_at}
 use Rattle.cachemounts.specs.CacheWants.{AreWants}
 use Rattle.jobs.specs.declared.task.Task.{Task}
@@ -26,3 +27,7 @@ pub record Fits (p : Place) (task : Task) (ws : List Want) : Type 0 where
 abbrev pub IsSeenIn : List (FolderName × Files) → Want → Type 0
 IsSeenIn folders want = want.folder.mode ≡ Shared
     → Contains (map (λ (folder : FolderName × Files). folder.0) folders) want.folder
+
+-- each of these folders is open, with these files
+abbrev pub AreOpen : Live → List (FolderName × Files) → Type 0
+AreOpen live = All (λ (folder : FolderName × Files). files_in live folder.0 ≡ Some folder.1)

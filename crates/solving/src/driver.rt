@@ -1,6 +1,7 @@
 //! One execution: it gets its lease, runs, and leaves something or gives the lease back. A run in one thread and the workers of a
 //! farm use this alike.
 ghost use Rattle.std.specs.Prelude.{◌≡◌, All, IfOk, IfSome};
+ghost use Rattle.executions.specs.Calls.{MadeOneAtMost};
 ghost use Rattle.solving.specs.Places.{Fits, IsSeenIn};
 ghost use Rattle.solving.specs.Leases.{IsLeaseOf, IsReplyTo};
 
@@ -121,14 +122,16 @@ fn lease<S: Ground, G: Gate>(
     Err(FarmFault::HistoryFull)
 }
 
-/// Solves a task. A key whose lease is denied has failed.
+/// Solves a task: its executor is called once at most. A key whose lease is denied has failed.
 pub fn solve<S: Ground, G: Gate>(
     ground: &mut S,
     gate: &G,
     work: &Work,
     executor: &mut dyn Executor,
     task: Task,
-) -> Result<(), FarmFault> {
+) -> Result<(), FarmFault>
+    ensures once { MadeOneAtMost task.key (history executor.old) (history executor.new) }
+{
     let (place, wants) = fit(ground.alloc(), work, ground.node(), &task)?;
     match lease(ground, gate, &task.key, &wants)? {
         Lease::Begun(running) => execute(ground, executor, running, task, place),
@@ -145,6 +148,7 @@ fn execute<S: Ground>(
     place: Place<'_>,
 ) -> Result<(), FarmFault>
     requires { Fits place task running.wants }
+    ensures once { MadeOneAtMost task.key (history executor.old) (history executor.new) }
 {
     match run_task(ground, executor, &running, &task, place) {
         Ok(ran) => take(ground, running, task.key, ran),
@@ -153,6 +157,7 @@ fn execute<S: Ground>(
 }
 
 /// Has the executor execute a task.
+#[tactic(auto, using(executions::proofs::CallLemmas::once_made))]
 fn run_task<S: Ground>(
     ground: &mut S,
     executor: &mut dyn Executor,
@@ -161,6 +166,7 @@ fn run_task<S: Ground>(
     place: Place<'_>,
 ) -> Result<Ran, FarmFault>
     requires { Fits place task.now running.now.wants }
+    ensures once { MadeOneAtMost task.now.key (history executor.old) (history executor.new) }
 {
     let Place { keyed, vertex } = place;
     let shared = ground.views(running.wants().as_slice())?;

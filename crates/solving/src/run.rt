@@ -1,9 +1,9 @@
 //! A run of one executor, on a board to which nobody else comes.
-ghost use Rattle.std.specs.Prelude.{◌≡◌, All, IfOk, IfErr, OnOk, None};
+ghost use Rattle.std.specs.Prelude.{◌≡◌, All, IfOk, IfErr, OnOk, None, map, take};
 ghost use Rattle.farm_base.specs.declared.want.Want.{Want as SpecWant};
 ghost use Rattle.executions.specs.Live.{files_in};
 ghost use Rattle.solving.specs.Batches.{batches_of, with_batches, IsStopped};
-ghost use Rattle.solving.specs.Places.{IsSeenIn};
+ghost use Rattle.solving.specs.Places.{IsSeenIn, AreOpen};
 
 use super::driver::{Ground, solve};
 use super::fault::FarmFault;
@@ -180,7 +180,8 @@ pub fn views_of(
     live: &LiveShared,
     wants: &[Want],
 ) -> Result<Vec<(FolderName, Folder)>, FarmFault>
-    ensures { IfOk result (λ views. All (IsSeenIn views.items) wants.now) }
+    ensures seen { IfOk result (λ views. All (IsSeenIn views.items) wants.now) }
+    ensures standing { IfOk result (λ views. AreOpen live.now views.items) }
 {
     let mut views = Vec::new(alloc);
     for want in wants {
@@ -197,6 +198,7 @@ fn add_view(
     want: &Want,
 ) -> Result<(), FarmFault>
     ensures seen { OnOk result (IsSeenIn views.new.items want.now) }
+    ensures standing { OnOk result (AreOpen live.now views.old.items → AreOpen live.now views.new.items) }
     ensures kept { OnOk result ((other : SpecWant) → IsSeenIn views.old.items other → IsSeenIn views.new.items other) }
 {
     if let Mode::Shared = want.folder.mode {
@@ -208,7 +210,7 @@ fn add_view(
 
 /// What the tenure of a SHARED folder leaves: the content in its one slot.
 pub fn lefts_of(alloc: Global, running: &Running, content: Content) -> Result<Vec<Left>, AllocError>
-    ensures { IfOk result (λ lefts. All (λ left. left.content ≡ content) lefts.items) }
+    ensures { IfOk result (λ lefts. lefts.items ≡ map (λ granted. record { slot = granted.slot; content = content }) (take 1 running.now.grant.slots)) }
 {
     let mut lefts = Vec::with_capacity(alloc, 1)?;
     if let Some(granted) = running.grant().slots.as_slice().first() {

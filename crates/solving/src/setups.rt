@@ -92,6 +92,7 @@ pub(crate) fn is_of_one(setup: Setup, jobs: &[(NodeId, Keyed)]) -> bool
 /// What ends a run that could begin: the setup was looked at before, so that it isn't at fault.
 pub fn beside_setup(fault: FarmFault) -> FarmFault
     ensures other { result ≢ FarmFault.BadSetup }
+    ensures same { fault ≢ FarmFault.BadSetup → result ≡ fault }
     ensures bare { is_bare fault ≡ true → is_bare result ≡ true }
 {
     match fault {

@@ -1,5 +1,5 @@
 //! The steps of one execution on a board to which nobody else comes. Each one delivers all messages.
-ghost use Rattle.std.specs.Prelude.{◌≡◌, IfOk, true};
+ghost use Rattle.std.specs.Prelude.{◌≡◌, IfErr, IfOk, false, true};
 ghost use Rattle.executions.specs.Live.{IsTenureOf};
 ghost use Rattle.farm_base.specs.Kinds.{is_tenure};
 ghost use Rattle.solving.specs.Leases.{IsReplyTo};
@@ -101,7 +101,8 @@ pub(crate) fn start_tenure(
 
 /// The execution, which is that of a tenure. `ReceiptLost` where it isn't.
 pub fn tenure_of(running: Running) -> Result<Running, FarmFault>
-    ensures { IfOk result (λ tenure. (tenure ≡ running) × (is_tenure running.grant.kind ≡ true)) }
+    ensures tenure { IfOk result (λ tenure. (tenure ≡ running) × (is_tenure running.grant.kind ≡ true)) }
+    ensures other { IfErr result (λ fault. (fault ≡ FarmFault.ReceiptLost) × (is_tenure running.grant.kind ≡ false)) }
 {
     if running.grant().kind.is_tenure() {
         return Ok(running);

@@ -16,8 +16,11 @@ loop-want-preserved c =
     let views = c.add_view.new.views.items in
     let told = c.in_ok-add_view.ensures in
     let at = slice_get_read wants (length wants) place want refl c.loop-want-test.true c.want-item.is in
-    subst (λ (ws : List Want). All (IsSeenIn views) ws) (sym (take_push wants place want at))
-    (All-push (IsSeenIn views) (take place wants) want (λ k d within. told.kept (slice_index_or (take place wants) k d) (c.loop-want.invariant k d within)) told.seen)
+    record {
+      seen = subst (λ (ws : List Want). All (IsSeenIn views) ws) (sym (take_push wants place want at))
+          (All-push (IsSeenIn views) (take place wants) want (λ k d within. told.kept (slice_index_or (take place wants) k d) (c.loop-want.invariant.seen k d within)) told.seen);
+      standing = told.standing c.loop-want.invariant.standing;
+    }
 
-pub returns : goal.returns
-returns c = subst (λ (ws : List Want). All (IsSeenIn c.loop-want.views.items) ws) (take_all c.loop-want.want-index c.args.wants.now (omega (arith, c.loop-want-test.false))) c.loop-want.invariant
+pub returns-clause-seen : goal.returns-clause-seen
+returns-clause-seen c = subst (λ (ws : List Want). All (IsSeenIn c.loop-want.views.items) ws) (take_all c.loop-want.want-index c.args.wants.now (omega (arith, c.loop-want-test.false))) c.loop-want.invariant.seen
