@@ -158,7 +158,9 @@ pub fn check(
     ensures answers { IfOk result (λ end. AreAnswered (farm_after setup end.schedule.items) (map (λ each. each.node) hired.now) (map (λ each. each.had.items) hired.now) (map (λ calls. calls.now) ends.now) jobs.now end.answers.items) }
     ensures answered { IfOk result (λ end. length end.answers.items ≡ length jobs.now) }
     ensures settled { IfOk result (λ end. All (λ answer. answer ≢ Answer.Waiting) end.answers.items) }
+    // Nothing of what was handed back is left out.
     ensures same { IfOk result (λ end. end.answers.items ≡ back.answers.items) }
+    ensures whole { IfOk result (λ end. (end.schedule.items ≡ back.board.events) × (end.receipts.items ≡ back.receipts.items)) }
 {
     agree(&back.board, setup)?;
     let saved = judge(alloc, jobs, hired, ends, &back)?;
@@ -190,6 +192,7 @@ pub fn check_standing(
 ) -> Result<Standing, EndRefusal>
     // What is handed back says what the schedule's replay does.
     ensures stands { IfOk result (λ left. IsStanding setup left.schedule.items left.saved.items left.commits left.receipts.items) }
+    ensures whole { IfOk result (λ left. (left.schedule.items ≡ board.events) × (left.receipts.items ≡ receipts.items)) }
     // The executors' calls begin with those that they had, in order.
     ensures calls { OnOk result (AllZip Grew (map (λ each. each.had.items) hired.now) (map (λ calls. calls.now) ends.now)) }
 {

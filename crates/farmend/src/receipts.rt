@@ -19,15 +19,15 @@ fn stands(world: &World, ticket: Ticket, version: &Version) -> bool
     number_on(world, ticket, &version.slot) == Some(version.number)
 }
 
-/// Whether the versions of a receipt stand on the lines under its ticket.
+/// Whether a receipt has versions, and they stand on the lines under its ticket.
 fn stands_on(world: &World, receipt: &Receipt) -> bool
     ensures { IsTrue result → StandsOn (shown world.now) receipt.now }
 {
-    receipt
-        .versions
-        .as_slice()
-        .iter()
-        .all(|version| stands(world, receipt.ticket, version))
+    let versions = receipt.versions.as_slice();
+    !versions.is_empty()
+        && versions
+            .iter()
+            .all(|version| stands(world, receipt.ticket, version))
 }
 
 /// Whether those of each receipt do.

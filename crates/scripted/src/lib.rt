@@ -1,7 +1,7 @@
 //! The executor of `run`: an execution does what a few words of its command say. Tests say what it does.
 #![tactic(auto)]
 
-ghost use Rattle.std.specs.Prelude.{⊤};
+ghost use Rattle.std.specs.Prelude.{⊤, ◌≡◌, []};
 
 use executions::{Call, ExecOutcome, ExecTask, Executor};
 use folders::Edit;
@@ -24,7 +24,9 @@ pub struct Scripted {
 
 impl Scripted {
     /// An executor that has carried out nothing.
-    pub fn new(alloc: Global) -> Self {
+    pub fn new(alloc: Global) -> Self
+        ensures { result.calls.items ≡ [] }
+    {
         Scripted {
             alloc,
             calls: Vec::new(alloc),
