@@ -6,14 +6,13 @@ once. Nothing is replaced that isn't a folder which the farm itself put there.
 from __future__ import annotations
 
 import contextlib
-import errno
 import fcntl
 import hashlib
 import json
 import os
+import random
 import re
 import shutil
-import socket
 import subprocess
 import tempfile
 import threading
@@ -21,6 +20,7 @@ import time
 from typing import Any, Callable, Iterator
 
 from agent import trees
+from agent.claims import claim
 from agent.faults import FarmFault, UsageFault
 from agent.standing import identity, signature
 from agent.store import Store, put_file
@@ -133,41 +133,27 @@ class Taken:
 TAKEN = Taken()  # by commands of all nodes of this process
 
 
-def _bound(lock: socket.socket, path: str) -> bool:
-    """Gives a socket the path's name on this machine, which one has at a time, whichever home its farm has: until all who have it close it."""
-    folder, name = os.path.split(path)
-    os.makedirs(folder, exist_ok=True)
-    here = os.stat(folder)
-    try:
-        lock.bind(f"\0farm-path-{here.st_dev}-{here.st_ino}-{short_name(name, 'name')}")
-        return True
-    except OSError as fault:
-        if fault.errno != errno.EADDRINUSE:
-            raise
-        return False
-
-
 class Places:
     def __init__(self, home: str) -> None:
         self.home = f"{home}/places"
         os.makedirs(self.home, exist_ok=True)
         self.trash = Trash(home)
         self.rooms = Rooms(home, self.trash)
-        self.locks: dict[str, int] = {}  # of a path that is held: the descriptor that holds it
+        self.locks: dict[str, list[int]] = {}  # of a path that is held: the descriptors that hold it
 
     @contextlib.contextmanager
     def held(self, path: str, check: Callable[[], None] = lambda: None) -> Iterator[None]:
-        """Holds a path, waiting until no other command of this machine has it, and none of this process what is within it or around it, and
-        nothing that a killed agent began fills it. Who holds several takes them in the order of `path_order`, or two would wait for each other."""
+        """Holds a path, waiting until no other command of this machine has it, or what is within it or around it, and nothing that a killed
+        agent began fills it. Who holds several takes them in the order of `path_order`, or two would wait for each other."""
         while not TAKEN.take(path):
             check()
             time.sleep(0.05)
         try:
-            with socket.socket(socket.AF_UNIX) as lock:
-                while not _bound(lock, path):
-                    check()
-                    time.sleep(0.05)
-                self.locks[path] = lock.fileno()
+            while (claimed := claim(path)) is None:
+                check()
+                time.sleep(random.uniform(0.03, 0.08))  # two who see each other don't look again at once
+            with contextlib.ExitStack() as held:
+                self.locks[path] = [held.enter_context(each).fileno() for each in claimed]
                 yield
         finally:
             self.locks.pop(path, None)
@@ -215,13 +201,13 @@ class Places:
         with contextlib.suppress(FileNotFoundError):
             os.unlink(self._known(path))
 
-    def fill(self, store: Store, index: bytes, path: str) -> None:
-        """Makes a path that is held what an index says. Where it still is that nothing is done."""
+    def fill(self, store: Store, index: bytes, path: str, check: Callable[[], None] = lambda: None) -> None:
+        """Makes a path that is held what an index says, as long as `check` finds that somebody waits. Where it still is that nothing is done."""
         digest = hashlib.sha256(index).hexdigest()
         if index and self._standing(path) == digest:
             return
         self.clear(path)
-        trees.extract(store, index, path, self.locks.get(path))
+        trees.extract(store, index, path, self.locks.get(path, ()), check)
         self._note(path, digest, signature(path) if index else None)
 
     def left(self, path: str) -> None:

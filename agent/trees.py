@@ -12,12 +12,12 @@ import shutil
 import stat
 import subprocess
 import tempfile
-from typing import Iterator, Sequence
+from typing import Callable, Iterator, Sequence
 
 from agent.chunks import chunk_names, chunk_path, is_kept
 from agent.faults import FarmFault
 from agent.store import Store
-from agent.tools import need
+from agent.tools import need, whole
 
 # What an index keeps of a file. A `--without=all` beside these would undo them, wherever it stood.
 FEATURES = ("--with=permissions", "--with=symlinks", "--with=nsec-time", "--with=32bit-uids", "--with=fifos")
@@ -27,9 +27,11 @@ EXCLUDE = ".caexclude"
 LONGEST = 237  # bytes of the name of what is no folder: it is made under a name that is longer
 
 
-def _casync(*words: str, keeps: Sequence[int] = ()) -> None:
-    call = [need("casync"), *words]
-    done = subprocess.run(call, pass_fds=keeps, stdin=subprocess.DEVNULL, capture_output=True, text=True, errors="replace")
+def _casync(*words: str, keeps: Sequence[int] = (), check: Callable[[], None] = lambda: None) -> None:
+    process = subprocess.Popen(
+        [need("casync"), *words], pass_fds=keeps, stdin=subprocess.DEVNULL, stdout=subprocess.PIPE, stderr=subprocess.PIPE, text=True, errors="replace"
+    )
+    done = whole(process, check)
     if done.returncode:
         raise FarmFault(f"casync {words[0]}: {' '.join(done.stderr.split())[-300:]}")
 
@@ -115,8 +117,8 @@ def keep(store: Store, path: str) -> tuple[bytes, str]:
         return index, store.publish(index)
 
 
-def extract(store: Store, index: bytes, path: str, lock: int | None = None) -> None:
-    """Makes a folder, which isn't there yet or is empty, what an index says. What fills it has the lock too, and may outlive the agent."""
+def extract(store: Store, index: bytes, path: str, locks: Sequence[int] = (), check: Callable[[], None] = lambda: None) -> None:
+    """Makes a folder, which isn't there yet or is empty, what an index says. What fills it has the locks too, and may outlive the agent."""
     os.makedirs(path, exist_ok=True)
     if not index:
         return
@@ -124,7 +126,7 @@ def extract(store: Store, index: bytes, path: str, lock: int | None = None) -> N
     with tempfile.NamedTemporaryFile(suffix=".caidx") as file:
         file.write(index)
         file.flush()
-        _casync("extract", f"--store={store.chunks}", *FEATURES, file.name, path, keeps=[] if lock is None else [lock])
+        _casync("extract", f"--store={store.chunks}", *FEATURES, file.name, path, keeps=locks, check=check)
     _show_excludes(path)
 
 

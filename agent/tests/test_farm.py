@@ -77,8 +77,8 @@ class Alone(support.FarmTest):
         os.rename(self.path("chunks"), f"{self.home}/contents/chunks")
 
     def test_left_early(self) -> None:
-        """A command whose caller goes while its folder is filled doesn't begin. One that waits for a path is told."""
-        self.write("bin/casync", f'#!/bin/sh\n[ $1 = make ] || {{ touch {self.path("filling")}; until [ -e {self.path("go")} ]; do sleep 0.05; done; }}\nexec {shutil.which("casync")} "$@"\n')
+        """A command whose caller goes while its folder is filled doesn't begin, and isn't waited for. One that waits for a path is told."""
+        self.write("bin/casync", f'#!/bin/sh\n[ $1 = make ] || {{ touch {self.path("filling")}; exec sleep 300; }}\nexec {shutil.which("casync")} "$@"\n')
         os.chmod(self.path("bin/casync"), 0o755)
         self.env["PATH"] = f"{self.path('bin')}:{self.env['PATH']}"
         self.farm("run", "--folder", "locked:c=w", "--", "touch", "w/f")
@@ -88,9 +88,7 @@ class Alone(support.FarmTest):
         assert other.stderr
         self.assertIn(f"waiting for {os.path.realpath(self.room)}/v/sub: another command", other.stderr.readline())
         run.send_signal(signal.SIGINT)
-        time.sleep(1.0)  # it is heard by then
-        self.write("go", "")
-        self.assertIn("nobody waits", run.communicate(timeout=30)[1])
+        self.assertIn("nobody waits", run.communicate(timeout=60)[1])
         self.assertEqual((run.returncode, os.path.exists(self.path("ran"))), (75, False))
         other.communicate(timeout=30)
         self.assertEqual(other.returncode, 0)

@@ -334,10 +334,29 @@ class Paths(support.RoomTest):
         assert other.stdout
         other.stdout.readline()
         copied = Places(self.path("copy"))
-        self.assertFalse(self.is_free(copied, self.path("w")))
+        deep = "w/" + "/".join("abcdefghijkl")
+        names = ["w", deep, f"{deep}/x", "wx", "wx/w"]
+        self.assertEqual([self.is_free(copied, self.path(name)) for name in names], [False, False, False, True, True])
+        self.assertEqual(os.listdir(self.path("w")), [])  # nothing is made within what another one has
         other.kill()
         other.communicate()
         self.assertTrue(self.is_free(copied, self.path("w")))
+
+    def test_held_within(self) -> None:
+        """A path is held also against agents of other homes that want what is around it, however deep it lies."""
+        text = (
+            f"import sys, time; sys.path.insert(0, {support.TOP!r})\n"
+            "from agent.places import Places\n"
+            f"with Places({self.path('home')!r}).held({self.path('w/' + '/'.join('abcdefghijklmnopqrstuvwxyz'))!r}):\n"
+            "    print('held', flush=True); time.sleep(60)\n"
+        )
+        other = subprocess.Popen([sys.executable, "-c", text], stdout=subprocess.PIPE, text=True)
+        assert other.stdout
+        other.stdout.readline()
+        free = [self.is_free(Places(self.path("home2")), self.path(name)) for name in ("w", "w/a", "w/a/b/c/d/e/f/g/h/i/j/k", "w/b")]
+        other.kill()
+        other.communicate()
+        self.assertEqual(free, [False, False, False, True])
 
     def test_filled_by_another(self) -> None:
         """What a killed agent fills no command has before casync has ended."""
