@@ -270,7 +270,8 @@ def do_status(args: argparse.Namespace) -> int:
         what = f"has {slots} open" if lease["kind"] == "tenure" else f"has {slots}" if slots else "runs a command without folders of its own"
         print(f"node {lease['node']} {what} {_ago(lease['since'])}, ticket {lease['ticket']}")
     for waiting in told["waiting"]:
-        print(f"node {waiting['node']} waits for {', '.join(waiting['folders'])}")
+        left = ", and nobody there wants it any more" if waiting["left"] else ""
+        print(f"node {waiting['node']} waits for {', '.join(waiting['folders'])}{left}")
     for folder in told["folders"]:
         print(f"{folder['slot']} is at version {folder['version']}")
     for node in told["gone"]:

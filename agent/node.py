@@ -108,11 +108,13 @@ class NodeAgent:
         words = note.split(" ")
         if words[0] == "life":
             self.life = int(words[1])
+            self.unwanted = {each for each in self.unwanted if each[0] == self.talk.epoch}
         if note not in ("nothing", "resent") and words[0] not in STATES:
             self.log(note[:160])
         if words[0] == "took":
             grant = grant_of(words[1:])
             if (self.talk.epoch, grant.ask) in self.unwanted:
+                self.unwanted.discard((self.talk.epoch, grant.ask))
                 threading.Thread(target=self.give_back, args=(grant.ticket, self.talk.epoch), daemon=True).start()
         if words[0] == "learned":
             self.learned[int(words[1])] = versions_of(words[2:])
@@ -153,6 +155,7 @@ class NodeAgent:
                     heard = time.monotonic()
                     here = " ".join(map(str, ["here", self.node, *list(self.running)]))
                     self.setup.transport.send(COORDINATOR, self.hints.seal(here))
+                    self._tell_left()
                 if line is not None:
                     self.receive(line)
             except LifeOver:
@@ -277,6 +280,15 @@ class NodeAgent:
             words = self.call(f"state {ask}", epoch).note.split(" ")
             if words[0] == "granted":
                 self.give_back(grant_of(words[1:]).ticket, epoch)
+            if words[0] != "pending":
+                self.unwanted.discard((epoch, ask))
+        self._tell_left()
+
+    def _tell_left(self) -> None:
+        """Says for which asks nobody waits any more: no call takes them back, so they stand until they are granted."""
+        asks = [str(ask) for epoch, ask in list(self.unwanted) if epoch == self.talk.epoch]
+        if asks:
+            self.setup.transport.send(COORDINATOR, self.hints.seal(" ".join(["left", str(self.node), str(self.life), *asks])))
 
     def begin(self, ticket: int, epoch: int, patience: Patience) -> None:
         """Begins an execution, once the contents of its bases are here."""

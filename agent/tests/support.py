@@ -142,6 +142,14 @@ class FarmTest(RoomTest):
         self.fail(f"no {path}")
 
 
+def until(holds: Callable[[], object], seconds: float = 60.0) -> None:
+    """Waits until something holds, however slow the machine is."""
+    end = time.monotonic() + seconds
+    while not holds():
+        assert time.monotonic() < end, f"it didn't come within {seconds:g} seconds"
+        time.sleep(0.02)
+
+
 @contextlib.contextmanager
 def redis_server(room: str, *words: str) -> Iterator[str]:
     """A Redis server of the test's own. Its URL."""

@@ -166,6 +166,8 @@ class Nodes(support.FarmTest):
         self.assertRegex(three.stderr.readline(), "waiting for locked:c")
         three.send_signal(signal.SIGTERM)
         self.ended(three, 75)
+        support.until(lambda: sorted(each["left"] for each in json.loads(self.asked("status", "--json"))["waiting"]) == [False, True, True])
+        self.assertIn("node 2 waits for locked:c, and nobody there wants it any more\n", self.asked("status"))
         self.write("go", "")
         self.ended(one, 0)
         self.assertIn("one\n", self.ended(two, 0))

@@ -25,7 +25,7 @@ def told(nodes: int, leases: int, folder: str = "locked:c") -> dict[str, Any]:
         "now": now, "gone": [2], "retired": [], "lives": {str(n): 1_700_000_000 + n for n in range(1, nodes + 1)},
         "heard": {str(n): now - n for n in range(1, nodes + 1)},
         "leases": [{"ticket": t, "node": t % nodes + 1, "life": 1, "ask": t, "kind": "plain", "slots": [f"{folder}{t}"], "since": now - t} for t in range(1, leases + 1)],
-        "waiting": [{"kind": "acquire", "node": 1, "life": 1, "ask": 5, "folders": [folder]}],
+        "waiting": [{"kind": "acquire", "node": 1, "life": 1, "ask": 5, "folders": [folder], "left": True}],
         "folders": [{"slot": f"{folder}{t}", "version": 3, "ticket": t, "digest": "0" * 64, "versions": [
             {"version": v, "ticket": v, "digest": "0" * 64, "size": 1234 ** v} for v in (3, 2, 1)]} for t in range(1, leases + 1)],
     }
@@ -87,6 +87,7 @@ class InBrowser(Served):
         self.assertEqual(browser.value("document.querySelector('#leases td.long').textContent"), f"{MARKED}1")
         self.assertEqual(browser.value("[document.title, document.scripts.length, document.images.length]"), ["farm", 1, 0])
         self.assertIn("retired", browser.value("document.querySelector('#nodes').textContent"))
+        self.assertIn("lease that nobody wants any more", browser.value("document.querySelector('#waiting').textContent"))
 
     def test_many(self) -> None:
         browser = self.browser()
