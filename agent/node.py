@@ -23,6 +23,7 @@ from agent.places import Places
 from agent.shared import SharedFolders
 from agent.store import ChunksMissing, Store
 from agent.transport import COORDINATOR, Transport, address_of, node_address
+from agent.trees import NotMade
 from agent.words import EMPTY, Grant, Slot, grant_of, versions_of
 
 AWAITED = ("took", "learned", "dropped", "denied", "blob", "recalled", "gave")  # notes that somebody may wait for
@@ -356,6 +357,18 @@ class NodeAgent:
 
         self.wait(epoch, patience, is_here)
         return index
+
+    def fill(self, slot: Slot, path: str, epoch: int, patience: Patience) -> None:
+        """Makes a path that is held what a slot begins from. What is spoilt in the store is got anew, from where it is right."""
+        gone = Patience(patience.caller, None).check
+        index = self.content(slot, epoch, patience)
+        try:
+            self.places.fill(self.store, index, path, gone)
+        except NotMade:
+            if not self.store.mend(index):
+                raise
+            self.log(f"chunks of {slot.name} were spoilt in the store")
+            self.places.fill(self.store, self.content(slot, epoch, patience), path, gone)
 
     def _index(self, slot: Slot, epoch: int) -> bytes:
         if slot.digest == EMPTY:

@@ -65,10 +65,13 @@ class RedisStore:
         self._send(digest, index, anew=False)
         return digest
 
+    def mend(self, index: bytes) -> bool:
+        return self.folder.mend(index)
+
     def offer(self, digest: str) -> bool:
         """Sends a content anew, all of it, where all of it is in this machine's folder."""
         index = self.folder.index(digest)
-        if not index:
+        if not index or self.folder.spoilt(index):
             return False
         try:
             self.folder.fetch(index)

@@ -168,7 +168,7 @@ class Run:
         return check
 
     def _fill(self, want: Want, slot: Slot, path: str) -> None:
-        self.agent.places.fill(self.agent.store, self.agent.content(slot, self.epoch, self.patience), path, Patience(self.caller, None).check)
+        self.agent.fill(slot, path, self.epoch, self.patience)
         self.job.filled(want, path, slot.base == 0)
 
     def _keep(self, slot: Slot, room: str) -> tuple[str, str]:

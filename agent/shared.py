@@ -129,7 +129,7 @@ class SharedFolders:
             slot = grant.slots[0]
             path = f"{agent.home}/shared/{short_name(folder)}"
             with agent.places.held(path):
-                agent.places.fill(agent.store, agent.content(slot, epoch, patience), path, Patience(patience.caller, None).check)
+                agent.fill(slot, path, epoch, patience)
             tenure = Tenure(ask, grant.ticket, slot, path, epoch)
             prepare(tenure)
             return tenure

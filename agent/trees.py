@@ -14,7 +14,7 @@ import subprocess
 import tempfile
 from typing import Callable, Iterator, Sequence
 
-from agent.chunks import chunk_names, chunk_path, is_kept
+from agent.chunks import chunk_names, chunk_path, is_whole
 from agent.faults import FarmFault
 from agent.store import Store
 from agent.tools import need, whole
@@ -27,13 +27,18 @@ EXCLUDE = ".caexclude"
 LONGEST = 237  # bytes of the name of what is no folder: it is made under a name that is longer
 
 
+class NotMade(FarmFault):
+    """casync couldn't make a folder of what the store has."""
+
+
 def _casync(*words: str, keeps: Sequence[int] = (), check: Callable[[], None] = lambda: None) -> None:
     process = subprocess.Popen(
         [need("casync"), *words], pass_fds=keeps, stdin=subprocess.DEVNULL, stdout=subprocess.PIPE, stderr=subprocess.PIPE, text=True, errors="replace"
     )
     done = whole(process, check)
     if done.returncode:
-        raise FarmFault(f"casync {words[0]}: {' '.join(done.stderr.split())[-300:]}")
+        kind = NotMade if words[0] == "extract" else FarmFault
+        raise kind(f"casync {words[0]}: {' '.join(done.stderr.split())[-300:]}")
 
 
 def _excludes(path: str) -> Iterator[tuple[str, list[str]]]:
@@ -86,8 +91,9 @@ def _make(store: Store, path: str) -> bytes:
 
 
 def _drop_hollow(store: Store, index: bytes) -> bool:
-    """Removes the chunks of an index that have no bytes, which casync takes for chunks that are there. Whether there was one."""
-    hollow = [name for name in chunk_names(index) if not is_kept(store.chunks, name)]
+    """Removes the chunks of an index that have no bytes or were cut short, which casync takes for chunks that are there. Whether there was
+    one."""
+    hollow = [name for name in chunk_names(index) if not is_whole(store.chunks, name)]
     for name in hollow:
         with contextlib.suppress(FileNotFoundError):
             os.unlink(chunk_path(store.chunks, name))
@@ -132,6 +138,15 @@ def extract(store: Store, index: bytes, path: str, locks: Sequence[int] = (), ch
 
 def extract_whole(store: Store, index: bytes, path: str) -> None:
     """Makes a path, which is free or an empty folder, what an index says, or leaves it as it was."""
+    try:
+        _extract_whole(store, index, path)
+    except NotMade:
+        if not store.mend(index):
+            raise
+        _extract_whole(store, index, path)
+
+
+def _extract_whole(store: Store, index: bytes, path: str) -> None:
     was_there = os.path.isdir(path)
     try:
         extract(store, index, path)

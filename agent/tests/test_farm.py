@@ -284,6 +284,7 @@ class Apart(support.FarmTest):
                 self.run_on(1 + number % 2, f"head -c 200000 /dev/urandom > w{1 + number % 2}/f{number}")
             self.assertRegex(self.asked("gc", "--keep", "1", "--grace", "-1"), "Redis forgot 2 indexes and [0-9]+ chunks")
             self.assertRegex(self.asked("gc", "--home", self.path("n1"), "--grace", "-1"), "^forgot 2 contents of nodes, 2 indexes and [1-9][0-9]* chunks")
+            self.spoilt()
             server = Redis(url)
             for key in server.call("KEYS", "*:chunk:*"):
                 server.call("SET", key, "spoilt")
@@ -292,6 +293,15 @@ class Apart(support.FarmTest):
             self.assertIn("the other nodes are asked for them", said)
             self.alone(url)
             self.end()
+
+    def spoilt(self) -> None:
+        """What is spoilt in a node's own folder comes from the store."""
+        chunks = [f"{at}/{name}" for at, _, names in os.walk(self.path("n1/contents/chunks")) for name in names]
+        for chunk in chunks:
+            with open(chunk, "rb+") as file:
+                file.truncate(100)
+        shutil.rmtree(self.path("w1"))
+        self.assertIn("f0 f1 f2", self.run_on(1, "echo $(ls w1)"))
 
     def alone(self, url: str) -> None:
         """The home of a node whose agent is gone serves no farm of its own."""

@@ -159,6 +159,28 @@ class Trees(support.RoomTest):
         trees.extract(self.store, index, self.path("out"))
         self.assertEqual(told(self.path("out")), told(tree))
 
+    def test_cut_short(self) -> None:
+        """So is what it left of chunks that were half written. What is spoilt otherwise is found where it is looked for."""
+        tree = self.tree()
+        index = trees.make(self.store, tree)
+        paths = [chunk_path(self.store.chunks, name) for name in chunk_names(index)]
+        for rest in (1, 3, 4, 20, -1):
+            for path in paths:
+                with open(path, "rb+") as file:
+                    file.truncate(rest if rest > 0 else os.path.getsize(path) + rest)
+            self.assertEqual(trees.keep(self.store, tree)[0], index, rest)
+            self.assertEqual(self.store.spoilt(index), [])
+        with open(paths[0], "rb+") as file:
+            file.seek(10)
+            file.write(b"spoilt")
+        with self.assertRaises(trees.NotMade):
+            trees.extract(self.store, index, self.path("out"))
+        with self.assertRaisesRegex(FarmFault, "1 chunks of a version aren't in"):
+            trees.extract_whole(self.store, index, self.path("out2"))
+        self.assertFalse(os.path.exists(self.path("out2")))
+        trees.keep(self.store, tree)
+        self.assertFalse(self.store.mend(index))
+
     def test_forget_damaged(self) -> None:
         """Chunks of a content that is needed stay, though its index can't be read: a filter may have it."""
         index, digest = trees.keep(self.store, self.tree())
