@@ -4,10 +4,12 @@ Owes the filters that it ends with the agent, and that of a cache mount it uses 
 """
 from __future__ import annotations
 
+import contextlib
 import json
 import os
 import re
 import subprocess
+import tempfile
 from dataclasses import dataclass, field
 from typing import Callable, Protocol
 
@@ -75,8 +77,8 @@ class Buildah:
 
     LOCK_FILE = "buildah-cache-lockfile"
 
-    def __init__(self, home: str) -> None:
-        self.home = home
+    def __init__(self, home: str, room: Callable[[], contextlib.AbstractContextManager[str]] = tempfile.TemporaryDirectory) -> None:
+        self.home, self.room = home, room
         self.storage = ["--root", f"{home}/root", "--runroot", f"{home}/run", "--storage-driver", "vfs"]
 
     def _words(self, *words: str) -> list[str]:
@@ -86,14 +88,15 @@ class Buildah:
 
     def _call(self, *words: str, check: Callable[[], None] = lambda: None) -> subprocess.CompletedProcess[str]:
         """A call outside any lease. It ends with the agent."""
-        os.makedirs(f"{self.home}/tmp", exist_ok=True)
-        env = {"PATH": os.environ.get("PATH", os.defpath), "HOME": self.home, "TMPDIR": f"{self.home}/tmp"}
-        spec = {"command": self._words(*words), "cwd": "/", "env": env, "binds": [], "parent": os.getpid(), "namespace": False}
-        with launcher(spec) as (call, said):
-            process = subprocess.Popen(
-                call, pass_fds=said, stdin=subprocess.DEVNULL, stdout=subprocess.PIPE, stderr=subprocess.PIPE, text=True, errors="replace"
-            )
-        return whole(process, check, ORPHANED)
+        os.makedirs(self.home, exist_ok=True)
+        with self.room() as room:
+            env = {"PATH": os.environ.get("PATH", os.defpath), "HOME": self.home, "TMPDIR": room}
+            spec = {"command": self._words(*words), "cwd": "/", "env": env, "binds": [], "parent": os.getpid(), "namespace": False}
+            with launcher(spec) as (call, said):
+                process = subprocess.Popen(
+                    call, pass_fds=said, stdin=subprocess.DEVNULL, stdout=subprocess.PIPE, stderr=subprocess.PIPE, text=True, errors="replace"
+                )
+            return whole(process, check, ORPHANED)
 
     def base_of(self, name: str, check: Callable[[], None]) -> Base:
         done = self._call("inspect", "--type", "image", name)

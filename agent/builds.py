@@ -67,7 +67,7 @@ class Builds:
 
     def __init__(self, agent: NodeAgent, builder: Builder | None = None) -> None:
         self.agent = agent
-        self.builder: Builder = builder or Buildah(f"{agent.home}/containers")
+        self.builder: Builder = builder or Buildah(f"{agent.home}/containers", agent.places.rooms.room)
         self.home = f"{agent.home}/builds"
         self.lock = threading.Lock()
         self.under_way = 0

@@ -137,10 +137,8 @@ class NodeAgent:
         if data is None:
             return False
         try:
-            with self.places.rooms.room() as room:
-                with open(f"{room}/content", "wb") as file:
-                    file.write(data)
-                return not self.call(line_of("blob", file.name)).is_refused
+            with self.places.rooms.file(data) as file:
+                return not self.call(line_of("blob", file)).is_refused
         except (LifeOver, OSError):  # the other nodes are asked for it
             return False
 

@@ -21,9 +21,9 @@ from typing import Any, Callable, Iterator
 
 from agent import trees
 from agent.claims import claim
-from agent.faults import FarmFault, UsageFault
+from agent.faults import FarmFault, UsageFault, named
 from agent.standing import identity, signature
-from agent.store import Store, put_file
+from agent.store import NEW, Store, put_file
 from agent.trees import is_folder
 from agent.words import short_name
 
@@ -76,6 +76,15 @@ class Rooms:
             own = self.own = self.own or self._begin()
         with tempfile.TemporaryDirectory(dir=own) as room:
             yield room
+
+    @contextlib.contextmanager
+    def file(self, data: bytes) -> Iterator[str]:
+        """The path of a file with these bytes."""
+        with self.room() as room:
+            path = f"{room}/content"
+            with named(path), open(path, "wb") as file:
+                file.write(data)
+            yield path
 
     def _begin(self) -> str:
         os.makedirs(self.home, exist_ok=True)
@@ -140,6 +149,13 @@ class Places:
         self.trash = Trash(home)
         self.rooms = Rooms(home, self.trash)
         self.locks: dict[str, list[int]] = {}  # of a path that is held: the descriptors that hold it
+
+    def sweep(self) -> None:
+        """Removes what an agent of this node left that was killed. None is there any more."""
+        with self.rooms.room():  # it begins with that
+            for name in os.listdir(self.home):
+                if name.startswith(NEW):
+                    os.unlink(f"{self.home}/{name}")
 
     @contextlib.contextmanager
     def held(self, path: str, check: Callable[[], None] = lambda: None) -> Iterator[None]:
@@ -207,7 +223,8 @@ class Places:
         if index and self._standing(path) == digest:
             return
         self.clear(path)
-        trees.extract(store, index, path, self.locks.get(path, ()), check)
+        with self.rooms.room() as room:
+            trees.extract(store, index, path, self.locks.get(path, ()), check, room)
         self._note(path, digest, signature(path) if index else None)
 
     def left(self, path: str) -> None:
@@ -228,7 +245,8 @@ class Places:
                     return index, store.publish(index)
             self._note(path, None, None)
             before = signature(path)
-            index = trees.make(store, path)
+            with self.rooms.room() as room:
+                index = trees.make(store, path, room)
             digest = store.publish(index)
             after = signature(path)
             self._note(path, digest, after if after == before else None)

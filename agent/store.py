@@ -15,9 +15,10 @@ import time
 from typing import Iterator, Protocol
 
 from agent.chunks import chunk_names, chunk_path, chunk_sizes, is_kept, is_right
-from agent.faults import FarmFault
+from agent.faults import FarmFault, named
 from agent.words import DIGEST, EMPTY
 
+NEW = ".new-"  # what the name of a file begins with that isn't whole yet
 _libc = ctypes.CDLL(None, use_errno=True)
 
 
@@ -61,12 +62,13 @@ def put_file(path: str, data: bytes) -> None:
     """A file that lasts, whole or not at all: written beside, synced, renamed, and its folder synced."""
     folder = os.path.dirname(path)
     os.makedirs(folder, exist_ok=True)
-    handle, beside = tempfile.mkstemp(prefix=".new-", dir=folder)
+    handle, beside = tempfile.mkstemp(prefix=NEW, dir=folder)
     try:
-        with os.fdopen(handle, "wb") as file:
-            file.write(data)
-            file.flush()
-            os.fsync(file.fileno())
+        with named(path):
+            with os.fdopen(handle, "wb") as file:
+                file.write(data)
+                file.flush()
+                os.fsync(file.fileno())
         os.rename(beside, path)
     except BaseException:
         os.unlink(beside)

@@ -83,8 +83,8 @@ def _check(path: str) -> None:
                 raise FarmFault(f"{whole} can't be kept: its name has more than {LONGEST} bytes")
 
 
-def _make(store: Store, path: str) -> bytes:
-    with tempfile.TemporaryDirectory() as room:
+def _make(store: Store, path: str, beside: str | None) -> bytes:
+    with tempfile.TemporaryDirectory(dir=beside) as room:
         _casync("make", f"--store={store.chunks}", *FEATURES, WHOLE, f"{room}/made.caidx", path)
         with open(f"{room}/made.caidx", "rb") as file:
             return file.read()
@@ -100,17 +100,17 @@ def _drop_hollow(store: Store, index: bytes) -> bool:
     return bool(hollow)
 
 
-def make(store: Store, path: str) -> bytes:
+def make(store: Store, path: str, beside: str | None = None) -> bytes:
     """The index of a folder, whose chunks are in the store's folder then. Hold `store.making` from before it until the index is
-    published."""
+    published. What isn't kept lies in the folder `beside`, else where the system has such files."""
     try:
         _check(path)
         hidden = _hide_excludes(path)
     except RecursionError:
         raise FarmFault(f"{path} has too many folders within folders") from None
     try:
-        index = _make(store, path)
-        return _make(store, path) if _drop_hollow(store, index) else index
+        index = _make(store, path, beside)
+        return _make(store, path, beside) if _drop_hollow(store, index) else index
     finally:
         if hidden:
             _show_excludes(path)
@@ -123,13 +123,15 @@ def keep(store: Store, path: str) -> tuple[bytes, str]:
         return index, store.publish(index)
 
 
-def extract(store: Store, index: bytes, path: str, locks: Sequence[int] = (), check: Callable[[], None] = lambda: None) -> None:
+def extract(
+    store: Store, index: bytes, path: str, locks: Sequence[int] = (), check: Callable[[], None] = lambda: None, beside: str | None = None
+) -> None:
     """Makes a folder, which isn't there yet or is empty, what an index says. What fills it has the locks too, and may outlive the agent."""
     os.makedirs(path, exist_ok=True)
     if not index:
         return
     store.fetch(index)
-    with tempfile.NamedTemporaryFile(suffix=".caidx") as file:
+    with tempfile.NamedTemporaryFile(suffix=".caidx", dir=beside) as file:
         file.write(index)
         file.flush()
         _casync("extract", f"--store={store.chunks}", *FEATURES, file.name, path, keeps=locks, check=check)

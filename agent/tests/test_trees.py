@@ -433,6 +433,25 @@ class Paths(support.RoomTest):
         places.clear(path)
         self.assertEqual((os.listdir(path), self.read("mine/f")), ([], "x"))
 
+    @unittest.skipUnless(support.has("casync"), support.needs("casync"))
+    def test_own_disk(self) -> None:
+        """A node makes nothing where the system has files that aren't kept: what it leaves there when it is killed nobody removes."""
+        store, places, path = FolderStore(self.path("store")), Places(self.path("home")), self.path("w")
+        with mock.patch("tempfile.tempdir", "/nowhere"):
+            places.clear(path)
+            self.write("w/f", "x")
+            index, _ = places.keep(store, path)
+            shutil.rmtree(path)
+            places.fill(store, index, path)
+        self.assertEqual(self.read("w/f"), "x")
+
+    @unittest.skipUnless(os.path.exists("/dev/full"), "there is no /dev/full")
+    def test_full(self) -> None:
+        """What a full disk refuses is told with the file's name."""
+        with mock.patch("os.fdopen", lambda handle, how: open("/dev/full", how)), self.assertRaisesRegex(OSError, f"No space.*{self.room}/f"):
+            put_file(self.path("f"), b"x")
+        self.assertEqual(os.listdir(self.room), [])
+
     def test_made_anew(self) -> None:
         places = Places(self.path("home"))
         places.clear(self.path("w"))
@@ -476,8 +495,9 @@ class Paths(support.RoomTest):
         self.assertFalse(os.path.exists(own))
         other.kill()
         other.communicate()
-        with Places(home).rooms.room():
-            self.assertFalse(os.path.exists(left))
+        self.write("home/places/.new-x", "half written")
+        Places(home).sweep()
+        self.assertFalse(os.path.exists(left) or os.path.exists(self.path("home/places/.new-x")))
 
     def test_names(self) -> None:
         os.makedirs(self.path("real"))
