@@ -117,6 +117,20 @@ class Alone(support.FarmTest):
         self.assertIn("apt-get install casync", said)
         self.assertFalse(os.path.exists(self.path("ran")))
 
+    def test_early_signal(self) -> None:
+        """Ctrl-C while the program is only being read is a signal that came before the lease, and nothing else."""
+        text = (
+            "import os, runpy, signal, sys\n"
+            "signal.signal(signal.SIGINT, signal.default_int_handler)\n"
+            "class Finder:\n"
+            "    def find_spec(self, name, *_):\n"
+            "        if name == 'agent.cli': os.kill(os.getpid(), signal.SIGINT)\n"
+            "sys.meta_path.insert(0, Finder())\n"
+            f"runpy.run_path({FARM[-1]!r}, run_name='__main__')\n"
+        )
+        done = subprocess.run([sys.executable, "-c", text, "run", "--", "true"], capture_output=True, text=True, timeout=60)
+        self.assertEqual((done.returncode, done.stderr), (75, ""))
+
     def test_missing_program(self) -> None:
         for program, said in (("/nowhere/farmctl", "isn't there"), ("/bin/false", "doesn't start as the coordinator")):
             self.env["FARMCTL"] = program
