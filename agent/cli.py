@@ -35,6 +35,13 @@ def parser() -> argparse.ArgumentParser:
     return top
 
 
+def seconds(text: str) -> float:
+    """A time that somebody may wait."""
+    if not float(text) >= 0:
+        raise ValueError
+    return float(text)
+
+
 def _verb(verbs: Any, name: str, does: Callable[[argparse.Namespace], int], text: str, example: str) -> argparse.ArgumentParser:
     made: argparse.ArgumentParser = verbs.add_parser(name, help=text, description=text, epilog=f"example: {example}")
     made.set_defaults(does=does)
@@ -56,7 +63,7 @@ def _serving_words(verbs: Any) -> None:
         made.add_argument("--verbose", action="store_true", help="says what the filters answer")
     for made in (up, coordinator):
         made.add_argument(
-            "--lease-timeout", type=float, metavar="SECONDS", help="withdraws the leases of a node that wasn't heard for so long"
+            "--lease-timeout", type=seconds, metavar="SECONDS", help="withdraws the leases of a node that wasn't heard for so long"
         )
     for made in (coordinator, node):
         broker = os.environ.get("FARM_BROKER")
@@ -70,7 +77,7 @@ def _run_words(verbs: Any) -> None:
     )
     run.add_argument("--node", type=int, help="the node that runs it (the first one here)")
     run.add_argument("--folder", action="append", default=[], metavar="[ro=]FOLDER=PATH", help="locked:ID, private:ID or shared:ID")
-    run.add_argument("--wait", type=float, metavar="SECONDS", help="waits no longer for the lease: then the status is 75")
+    run.add_argument("--wait", type=seconds, metavar="SECONDS", help="waits no longer for the lease: then the status is 75")
     run.add_argument("--must-commit", action="store_true", help="status 75 where what the command left doesn't count")
     run.add_argument("--on-lost", choices=["stop", "go-on"], default="go-on", help="what a command does whose lease has ended")
     run.add_argument("command", nargs="+", metavar="COMMAND")
@@ -86,7 +93,7 @@ def _build_words(verbs: Any) -> None:
     build.add_argument("--build-arg", action="append", default=[], metavar="K=V")
     build.add_argument("--target", metavar="STAGE")
     build.add_argument("--format", choices=["oci", "docker"])
-    build.add_argument("--wait", type=float, metavar="SECONDS")
+    build.add_argument("--wait", type=seconds, metavar="SECONDS")
     build.add_argument("--on-lost", choices=["stop", "go-on"], default="go-on")
     build.add_argument("--shared-as", choices=["shared", "locked", "private"], default="shared", help="treats shared mounts so")
     build.add_argument("--keep-failed", action="store_true", help="commits also what a failed build left")

@@ -30,6 +30,7 @@ AWAITED = ("took", "learned", "dropped", "denied", "blob", "recalled", "gave")  
 STATES = ("pending", "granted", "running", "committed", "fenced", "released", "content")  # answers to questions
 STORE_FAULT = "refused StoreFault"
 RECALL = re.compile(r"recall [0-9]{1,4} [0-9]{1,20} ([0-9]{1,20}) ", re.ASCII)
+UNHEARD = "the coordinator hasn't answered yet: it may not run, or have another broker or key"
 HEARTBEAT = 2.0
 LOOK = 0.2  # seconds after which it is seen that nobody waits any more
 REMEMBERED = 1024  # commits
@@ -252,7 +253,7 @@ class NodeAgent:
             if words[0] == "pending" and time.monotonic() > due:
                 due = time.monotonic() + 2.0
                 self.setup.transport.send(COORDINATOR, self.hints.seal(f"who {self.node} {ask} {' '.join(folders)}"))
-            held = self.holders.get(ask, "the coordinator hasn't answered yet" if time.monotonic() > silent else "")
+            held = self.holders.get(ask, UNHEARD if time.monotonic() > silent else "")
             if words[0] == "pending" and held and held != told:
                 told = held
                 said = patience.of_shared if any(folder.startswith("shared:") for folder in folders) else ""

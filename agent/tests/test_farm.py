@@ -98,6 +98,7 @@ class Alone(support.FarmTest):
                 (["status"], 70, "farm up starts one"), (["withdraw", "x"], 64, "invalid int"), (["coordinator", "--broker", "10.0.0.1"], 64, "redis://HOST"),
                 (["run", "--home", self.path("my home"), "--", "true"], 64, "has a space"),
                 (["node", "9", "--broker", "redis://127.0.0.1:1"], 64, "no node 9 of 3"), (["gc", "--keep", "0"], 64, "at least 1"),
+                (["run", "--wait", "nan", "--", "true"], 64, "invalid seconds value: 'nan'"), (["run", "--wait", "-1", "--", "true"], 64, "'-1'"),
                 (["run", "--home", self.path("x" * 90), "--", "true"], 64, "too long"), (["up", "--home", self.path("\udcff")], 64, "isn't UTF-8"),
                 (["status", "--home", self.path("x" * 90)], 70, "path too long")]
         for words, status, said in rows:
