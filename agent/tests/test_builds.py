@@ -69,13 +69,13 @@ class Pulled(support.FarmTest):
         with socket.create_server(("127.0.0.1", 0)) as registry:
             self.write("context/Dockerfile", f"FROM 127.0.0.1:{registry.getsockname()[1]}/x\n")
             build = self.begin("build", "context")
-            registry.settimeout(60)
+            registry.settimeout(support.PATIENCE)
             link, _ = registry.accept()  # it is asked, and never answers
             build.send_signal(signal.SIGINT)
-            self.assertIn("nobody waits", build.communicate(timeout=60)[1])
+            self.assertIn("nobody waits", build.communicate(timeout=support.PATIENCE)[1])
             self.assertEqual(build.returncode, 75)
             with link:
-                link.settimeout(60)
+                link.settimeout(support.PATIENCE)
                 while link.recv(1 << 16):  # until who pulled has ended
                     pass
 

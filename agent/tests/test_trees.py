@@ -7,7 +7,6 @@ import shutil
 import subprocess
 import sys
 import tempfile
-import time
 import unittest
 from typing import Callable
 from unittest import mock
@@ -140,11 +139,7 @@ class Trees(support.RoomTest):
             trees.keep(self.store, self.path("tree"))
         self.assertIsNone(signature(self.path("tree")))
         Trash(self.path("home")).take(self.path("tree"))
-        for _ in range(500):
-            if not os.listdir(self.path("home/trash")):
-                return
-            time.sleep(0.02)
-        self.fail("it is still in the trash")
+        support.until(lambda: not os.listdir(self.path("home/trash")), "it is still in the trash")
 
     def test_hollow(self) -> None:
         """What a power failure left of chunks that nobody had synced is made anew."""
@@ -350,7 +345,7 @@ class Paths(support.RoomTest):
             f"import sys, time; sys.path.insert(0, {support.TOP!r})\n"
             "from agent.places import Places\n"
             f"with Places({self.path('home')!r}).held({self.path('w')!r}):\n"
-            "    print('held', flush=True); time.sleep(60)\n"
+            "    print('held', flush=True); time.sleep(600)\n"
         )
         other = subprocess.Popen([sys.executable, "-c", text], stdout=subprocess.PIPE, text=True)
         assert other.stdout
@@ -370,7 +365,7 @@ class Paths(support.RoomTest):
             f"import sys, time; sys.path.insert(0, {support.TOP!r})\n"
             "from agent.places import Places\n"
             f"with Places({self.path('home')!r}).held({self.path('w/' + '/'.join('abcdefghijklmnopqrstuvwxyz'))!r}):\n"
-            "    print('held', flush=True); time.sleep(60)\n"
+            "    print('held', flush=True); time.sleep(600)\n"
         )
         other = subprocess.Popen([sys.executable, "-c", text], stdout=subprocess.PIPE, text=True)
         assert other.stdout
@@ -382,7 +377,7 @@ class Paths(support.RoomTest):
 
     def test_filled_by_another(self) -> None:
         """What a killed agent fills no command has before casync has ended."""
-        self.write("bin/casync", f"#!/bin/sh\necho $$ > {self.path('pid')}.new; mv {self.path('pid')}.new {self.path('pid')}; exec sleep 60\n")
+        self.write("bin/casync", f"#!/bin/sh\necho $$ > {self.path('pid')}.new; mv {self.path('pid')}.new {self.path('pid')}; exec sleep 600\n")
         os.chmod(self.path("bin/casync"), 0o755)
         text = (
             f"import sys; sys.path.insert(0, {support.TOP!r})\n"
@@ -393,10 +388,7 @@ class Paths(support.RoomTest):
             f"    places.fill(mock.Mock(), b'index', {self.path('w')!r})\n"
         )
         agent = subprocess.Popen([sys.executable, "-c", text], env=os.environ | {"PATH": f"{self.path('bin')}:{os.environ['PATH']}"})
-        for _ in range(500):
-            if os.path.exists(self.path("pid")):
-                break
-            time.sleep(0.02)
+        support.until(lambda: os.path.exists(self.path("pid")))
         agent.kill()
         agent.wait()
         places = Places(self.path("home"))
@@ -485,7 +477,7 @@ class Paths(support.RoomTest):
             f"import sys, time; sys.path.insert(0, {support.TOP!r})\n"
             "from agent.places import Places\n"
             f"with Places({home!r}).rooms.room() as room:\n"
-            "    print(room, flush=True); time.sleep(60)\n"
+            "    print(room, flush=True); time.sleep(600)\n"
         )
         other = subprocess.Popen([sys.executable, "-c", text], stdout=subprocess.PIPE, text=True)
         assert other.stdout

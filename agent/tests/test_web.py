@@ -49,7 +49,7 @@ class Served(support.RoomTest):
         return server.server_port
 
     def get(self, port: int, path: str, method: str = "GET", **heads: str) -> tuple[int, bytes, str]:
-        link = http.client.HTTPConnection("127.0.0.1", port, timeout=10)
+        link = http.client.HTTPConnection("127.0.0.1", port, timeout=support.PATIENCE)
         link.request(method, path, headers=heads)
         answer = link.getresponse()
         data = answer.read()
@@ -129,7 +129,7 @@ class OfAFarm(support.FarmTest):
         self.addCleanup(browser.close)
         browser.open(url)
         self.assertTrue(browser.wait("document.querySelector('#leases').textContent.includes('nobody has')"))
-        held = self.begin("run", "--node", "1", "--on-lost", "stop", "--folder", "locked:c=w", "--", "sh", "-c", "touch in; sleep 60")
+        held = self.begin("run", "--node", "1", "--on-lost", "stop", "--folder", "locked:c=w", "--", "sh", "-c", "touch in; sleep 760")
         self.wait_for(self.path("in"))
         waits = self.begin("run", "--node", "2", "--folder", "locked:c=v", "--", "true")
         self.assertTrue(browser.wait("document.querySelector('#leases').textContent.includes('locked:c') && document.querySelector('#waiting').textContent.includes('locked:c')"))
@@ -137,8 +137,8 @@ class OfAFarm(support.FarmTest):
             browser.picture(os.environ["FARM_PICTURE"])
         ticket = json.loads(self.asked("status", "--json"))["leases"][0]["ticket"]
         self.asked("withdraw", str(ticket))
-        held.communicate(timeout=30)
-        waits.communicate(timeout=30)
+        held.communicate(timeout=support.PATIENCE)
+        waits.communicate(timeout=support.PATIENCE)
         self.assertTrue(browser.wait("document.querySelector('#leases').textContent.includes('nobody has')"))
         self.assertRegex(browser.value("document.querySelector('#folders').textContent"), "locked:c2[0-9]+[0-9.]+ kB1: ")
         self.end()
