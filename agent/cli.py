@@ -220,6 +220,13 @@ def ask_node(home: str, node: int | None, what: dict[str, Any]) -> int:
     raise FarmFault(f"no farm answers in {home}")
 
 
+def own_folder() -> str:
+    try:
+        return os.getcwd()
+    except FileNotFoundError:
+        raise FarmFault("the folder that this was called in is there no more") from None
+
+
 def own_umask() -> int:
     os.umask(mask := os.umask(0o077))
     return mask
@@ -229,7 +236,7 @@ def do_run(args: argparse.Namespace) -> int:
     for word in args.folder:
         want_of(word)  # wrong words are told before a farm is started
     return ask_node(args.home, args.node, {
-        "do": "run", "folders": args.folder, "command": args.command, "cwd": os.getcwd(), "env": dict(os.environ),
+        "do": "run", "folders": args.folder, "command": args.command, "cwd": own_folder(), "env": dict(os.environ),
         "wait": args.wait, "must_commit": args.must_commit, "on_lost": args.on_lost, "umask": own_umask(),
     })
 
@@ -239,7 +246,7 @@ def do_build(args: argparse.Namespace) -> int:
 
     given = [word.partition("=") for word in args.build_arg]
     asked = BuildAsked(
-        context=os.path.abspath(args.context), cwd=os.getcwd(), file=args.file, tag=args.tag, target=args.target,
+        cwd=own_folder(), context=os.path.abspath(args.context), file=args.file, tag=args.tag, target=args.target,
         build_args={key: value if equals else os.environ[key] for key, equals, value in given if equals or key in os.environ},
         format=args.format,
         wait=args.wait, on_lost=args.on_lost, shared_as=args.shared_as, keep_failed=args.keep_failed, tag_fenced=args.tag_fenced,

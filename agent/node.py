@@ -110,7 +110,7 @@ class NodeAgent:
         words = note.split(" ")
         if words[0] == "life":
             self.life = int(words[1])
-            self.unwanted = {each for each in self.unwanted if each[0] == self.talk.epoch}
+            self.unwanted = {each for each in list(self.unwanted) if each[0] == self.talk.epoch}
         if note not in ("nothing", "resent") and words[0] not in STATES:
             self.log(note[:160])
         if words[0] == "took":
@@ -280,7 +280,7 @@ class NodeAgent:
             words = self.call(f"state {ask}", epoch).note.split(" ")
             if words[0] == "granted":
                 self.give_back(grant_of(words[1:]).ticket, epoch)
-            if words[0] != "pending":
+            if words[0] in ("granted", "denied", "none"):
                 self.unwanted.discard((epoch, ask))
         self._tell_left()
 
