@@ -79,6 +79,7 @@ class Builds:
             if self.under_way == 0 and self.dirty:
                 if os.path.isdir(self.home):
                     self.agent.places.trash.take(self.home)
+                    self.agent.places.forget_within(self.home)
                 self.builder.sweep()
                 self.dirty = False
             self.under_way += 1

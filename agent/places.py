@@ -180,12 +180,7 @@ class Places:
 
     def _read(self, path: str) -> list[Any]:
         """What is known of a path: itself, the folder's device and identity, and the version that it holds with its signature."""
-        try:
-            with open(self._known(path)) as file:
-                known = json.load(file)
-            return known if isinstance(known, list) else []
-        except (OSError, ValueError):
-            return []
+        return _list_of(self._known(path))
 
     def _note(self, path: str, digest: str | None, mark: str | None) -> None:
         put_file(self._known(path), json.dumps([path, os.lstat(path).st_dev, identity(path), digest, mark]).encode())
@@ -216,6 +211,13 @@ class Places:
         """Nobody uses the path any more, or will."""
         with contextlib.suppress(FileNotFoundError):
             os.unlink(self._known(path))
+
+    def forget_within(self, folder: str) -> None:
+        """Nobody uses any path within a folder any more, or will."""
+        for name in os.listdir(self.home):
+            known = _list_of(f"{self.home}/{name}")
+            if known and is_within(str(known[0]), os.path.realpath(folder)):
+                self.forget(str(known[0]))
 
     def fill(self, store: Store, index: bytes, path: str, check: Callable[[], None] = lambda: None) -> None:
         """Makes a path that is held what an index says, as long as `check` finds that somebody waits. Where it still is that nothing is done."""
@@ -251,6 +253,16 @@ class Places:
             after = signature(path)
             self._note(path, digest, after if after == before else None)
             return index, digest
+
+
+def _list_of(path: str) -> list[Any]:
+    """The list that a file holds; an empty one where it holds none."""
+    try:
+        with open(path) as file:
+            known = json.load(file)
+        return known if isinstance(known, list) else []
+    except (OSError, ValueError):
+        return []
 
 
 def mounts() -> list[str]:

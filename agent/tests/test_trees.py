@@ -1,6 +1,7 @@
 """Folders as contents, and back; what a store forgets."""
 from __future__ import annotations
 
+import json
 import mmap
 import os
 import shutil
@@ -300,6 +301,10 @@ class Paths(support.RoomTest):
             places.clear(self.path("work/mine/f"))
         os.makedirs(self.path("work/new"))
         places.clear(self.path("work/new"))
+        os.symlink("work", self.path("link"))
+        places.clear(self.path("workshop"))
+        places.forget_within(self.path("link"))
+        self.assertEqual([json.loads(self.read(f"home/places/{name}"))[0] for name in os.listdir(places.home)], [self.path("workshop")])
 
     @unittest.skipUnless(support.is_root, "only root can mount")
     def test_mounted(self) -> None:
