@@ -103,8 +103,8 @@ class Alone(support.FarmTest):
         for words, status, said in rows:
             self.assertIn(said, self.asked(*words, status=status))
         gone = 'mkdir gone && cd gone && rmdir ../gone && exec "$@"'
-        for verb in (["run", "--", "true"], ["build", self.room]):
-            done = subprocess.run(["sh", "-c", gone, "sh", *FARM, *verb], cwd=self.room, env=self.env, capture_output=True, text=True)
+        for call in (["run", "--", "true"], ["build", self.room]):
+            done = subprocess.run(["sh", "-c", gone, "sh", *FARM, *call], cwd=self.room, env=self.env, capture_output=True, text=True)
             self.assertEqual((done.returncode, done.stderr), (70, "farm: the folder that this was called in is there no more\n"))
         for verb in ("", "run", "build", "up", "coordinator", "node", "status", "log", "get", "withdraw", "retire", "prune", "gc", "web"):
             said = self.asked("--help") if not verb else self.asked(verb, "--help")
