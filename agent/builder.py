@@ -23,7 +23,9 @@ from agent.tools import need, whole
 # An image's name as registries spell it: a first part with a point or a port is a registry, and all else is in small letters.
 PART = r"[a-z0-9]+(?:(?:[._]|__|-+)[a-z0-9]+)*"
 LABEL = r"[A-Za-z0-9](?:[A-Za-z0-9-]*[A-Za-z0-9])?"
-IMAGE_NAME = re.compile(rf"(?!sha256:)(?P<registry>(?=[^/]*[.:]|localhost/){LABEL}(?:\.{LABEL})*(?::[0-9]+)?/)?{PART}(?:/{PART})*(?P<tag>:[0-9A-Za-z_][0-9A-Za-z_.-]{{0,127}})?")
+REGISTRY = rf"(?=[^/]*[.:]|localhost/){LABEL}(?:\.{LABEL})*(?::[0-9]+)?/"
+TAG = r":[0-9A-Za-z_][0-9A-Za-z_.-]{0,127}"
+IMAGE_NAME = re.compile(rf"(?!sha256:)(?P<registry>{REGISTRY})?{PART}(?:/{PART})*(?P<tag>{TAG})?")
 LONGEST_NAME = 255  # with its registry, which is localhost/ where none is named
 
 

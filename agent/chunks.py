@@ -19,6 +19,8 @@ TABLE = 0xE75B9E112F17417D
 TAIL = 0x4B4F050E5549ECD1
 ZSTD = b"\x28\xb5\x2f\xfd"  # what a chunk begins with, as Debian's casync writes it; one that begins otherwise isn't looked into
 
+LARGEST = 1 << 28  # bytes of a chunk: casync's are far smaller
+
 
 def _zstd_library() -> Any:
     """The library that casync itself calls."""
@@ -98,7 +100,7 @@ def is_whole(folder: str, name: str) -> bool:
 
 
 def is_right(folder: str, name: str, size: int) -> bool:
-    """Whether a chunk is what its name says: casync calls it by the digest of what is packed in it."""
+    """Whether a chunk is what its name says: casync calls it by the digest of what is packed in it, of which it knows two."""
     try:
         with open(chunk_path(folder, name), "rb") as file:
             data = file.read()
@@ -106,6 +108,8 @@ def is_right(folder: str, name: str, size: int) -> bool:
         return False
     if not _zstd or data[:4] != ZSTD or "sha512_256" not in hashlib.algorithms_available:
         return len(data) >= len(ZSTD)
+    if not 0 <= size <= LARGEST:
+        return False
     unpacked = ctypes.create_string_buffer(size)
     found = _zstd.ZSTD_decompress(unpacked, ctypes.c_size_t(size), data, ctypes.c_size_t(len(data)))
-    return bool(found == size and hashlib.new("sha512_256", unpacked).hexdigest() == name)
+    return bool(found == size and name in [hashlib.new(kind, unpacked).hexdigest() for kind in ("sha512_256", "sha256")])

@@ -134,11 +134,13 @@ class FolderStore:
 
     def mend(self, index: bytes) -> bool:
         spoilt = self.spoilt(index)
+        if not spoilt:
+            return False
         with self._locked(fcntl.LOCK_EX):  # nobody counts on them just now
             for name in spoilt:
                 with contextlib.suppress(FileNotFoundError):
                     os.unlink(chunk_path(self.chunks, name))
-        return bool(spoilt)
+        return True
 
     def offer(self, digest: str) -> bool:
         return False  # all see one folder
