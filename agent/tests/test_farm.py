@@ -1,6 +1,7 @@
 """Whole farms: commands as people call them, over the stand-in for the filters or the program that FARMCTL names."""
 from __future__ import annotations
 
+import contextlib
 import json
 import os
 import random
@@ -242,16 +243,16 @@ class Nodes(support.FarmTest):
         self.ended(self.run_on(1, "echo x > w1/f"), 0)
 
     def kill_filter(self, role: str) -> None:
-        with open(f"/proc/{self.agent.pid}/task/{self.agent.pid}/children") as file:
-            children = file.read().split()
+        gone = contextlib.suppress(FileNotFoundError, ProcessLookupError)  # threads and processes end meanwhile
+        children = set[str]()
         for task in os.listdir(f"/proc/{self.agent.pid}/task"):
-            with open(f"/proc/{self.agent.pid}/task/{task}/children") as file:
-                children += file.read().split()
-        for pid in set(children):
-            with open(f"/proc/{pid}/cmdline", "rb") as shown:
+            with gone, open(f"/proc/{self.agent.pid}/task/{task}/children") as file:
+                children.update(file.read().split())
+        for pid in children:
+            with gone, open(f"/proc/{pid}/cmdline", "rb") as shown:
                 words = shown.read().split(b"\0")
-            if role.encode() in words and (role != "node" or b"1" in words):
-                os.kill(int(pid), signal.SIGKILL)
+                if role.encode() in words and (role != "node" or b"1" in words):
+                    os.kill(int(pid), signal.SIGKILL)
 
     def shared(self) -> None:
         first = self.run_on(1, "echo a >> w1/f; touch in; until [ -e go ]; do sleep 0.05; done", folder="shared:s")
