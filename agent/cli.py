@@ -17,6 +17,7 @@ from agent import client
 from agent.faults import FAULT, LOST, MISSING, USAGE, FarmFault, UsageFault, sentence, tell
 from agent.words import version_of, want_of
 
+LOG_MOST = 8 << 20  # bytes of the log of farms that commands start: a longer one is put aside, in place of the one before it
 LAST = 3  # versions of a folder that `status --json` and the page tell
 ENDS = """statuses: the command's or builder's own; 64 wrong words; 65 a Dockerfile that can't be built under leases; 69 a program is missing;
 70 a fault; 75 the lease wasn't granted in time, or what was left doesn't count; 76 a build whose lease had ended"""
@@ -165,6 +166,8 @@ def start_farm(home: str) -> None:
     os.makedirs(home, mode=0o700, exist_ok=True)
     tell(f"no farm runs in {home}: one of one node is started")
     words = [sys.executable, "-IS", os.path.join(TOP, "farm"), "up", "--home", home, "--nodes", "1", "--while-used", "--verbose"]
+    if os.path.exists(f"{home}/farm.log") and os.path.getsize(f"{home}/farm.log") > LOG_MOST:
+        os.replace(f"{home}/farm.log", f"{home}/farm.log.old")
     with open(f"{home}/farm.log", "ab") as log:
         begun = log.tell()
         started = subprocess.Popen(words, stdin=subprocess.DEVNULL, stdout=subprocess.PIPE, stderr=log, start_new_session=True, cwd=home)
@@ -198,10 +201,14 @@ def socket_of(home: str, node: int | None) -> str | None:
 
 def ask_node(home: str, node: int | None, what: dict[str, Any]) -> int:
     """Asks a node, and starts a farm for it where none runs here."""
-    for _ in range(5):
+    for turn in range(5):
         path = socket_of(home, node)
+        is_up = client.is_there(f"{home}/coordinator.sock")
+        if path is None and is_up and turn < 4:
+            time.sleep(0.3)  # its nodes may be about to stand
+            continue
         if path is None:
-            if node not in (None, 1) or client.is_there(f"{home}/coordinator.sock"):
+            if node not in (None, 1) or is_up:
                 raise FarmFault(f"no node {node or ''} runs in {home}".replace("  ", " "))
             if os.path.exists(f"{home}/joined"):
                 raise FarmFault(f"no node runs in {home}, which is of a farm over a broker: farm node N --broker redis://.. runs one")

@@ -11,6 +11,7 @@ import subprocess
 import sys
 import threading
 import unittest
+from typing import Any
 from unittest import mock
 
 from agent.caller import Patience
@@ -21,6 +22,7 @@ from agent.hints import make_key
 from agent.node import NodeAgent, Setup
 from agent.redis_wire import Redis
 from agent.runs import Job, Run
+from agent.service import Connection, Service
 from agent.store import FolderStore
 from agent.transport import LocalTransport
 from agent.words import Want
@@ -67,6 +69,34 @@ class Alone(support.FarmTest):
         self.assertIn("isn't in the store any more", self.asked("get", "locked:c@1", self.path("gone"), status=70))
         self.farm("run", "--folder", "locked:c=w", "--", "sh", "-c", "ls w > seen")
         self.assertEqual(self.read("seen"), "")
+
+    def test_starting(self) -> None:
+        """A farm whose nodes are about to stand is waited for. A log that has become long is put aside."""
+        os.makedirs(self.home)
+        asked = list[Any]()
+
+        def answers(what: dict[str, Any], _link: Connection) -> int:
+            asked.append(what["command"])
+            return 7
+
+        def serve(name: str) -> None:
+            service = Service(f"{self.home}/{name}.sock", answers)
+            self.addCleanup(service.close)
+            threading.Thread(target=service.serve, daemon=True).start()
+
+        serve("coordinator")
+        later = threading.Timer(0.2, serve, ["node2"])
+        later.start()
+        self.asked("run", "--", "true", status=7)
+        self.assertEqual(asked, [["true"]])
+        self.assertIn("no node 1 runs", self.asked("run", "--node", "1", "--", "true", status=70))
+        later.join()
+
+    def test_long_log(self) -> None:
+        self.write("home/farm.log", "x" * (8 << 20) + "x")
+        self.farm("run", "--", "true")
+        self.assertEqual(os.path.getsize(f"{self.home}/farm.log.old"), (8 << 20) + 1)
+        self.assertLess(os.path.getsize(f"{self.home}/farm.log"), 8 << 20)
 
     def lost(self) -> None:
         """What can't be shown whole isn't shown."""
