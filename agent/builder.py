@@ -4,17 +4,36 @@ Owes the filters that it ends with the agent, and that of a cache mount it uses 
 """
 from __future__ import annotations
 
+import contextlib
 import json
 import os
+import re
 import subprocess
+import tempfile
 from dataclasses import dataclass, field
-from typing import Protocol
+from typing import Callable, Protocol
 
 from agent.dockerfile import Base
 from agent.dockertext import BadDockerfile
 from agent.executions import launcher
-from agent.faults import FarmFault
-from agent.tools import need
+from agent.faults import FarmFault, UsageFault
+from agent.launch import ORPHANED
+from agent.tools import need, whole
+
+# An image's name as registries spell it: a first part with a point or a port is a registry, and all else is in small letters.
+PART = r"[a-z0-9]+(?:(?:[._]|__|-+)[a-z0-9]+)*"
+LABEL = r"[A-Za-z0-9](?:[A-Za-z0-9-]*[A-Za-z0-9])?"
+REGISTRY = rf"(?=[^/]*[.:]|localhost/){LABEL}(?:\.{LABEL})*(?::[0-9]+)?/"
+TAG = r":[0-9A-Za-z_][0-9A-Za-z_.-]{0,127}"
+IMAGE_NAME = re.compile(rf"(?!sha256:)(?P<registry>{REGISTRY})?{PART}(?:/{PART})*(?P<tag>{TAG})?")
+LONGEST_NAME = 255  # with its registry, which is localhost/ where none is named
+
+
+def check_tag(tag: str) -> None:
+    """Refuses what can't be an image's tag, before anything is built for it."""
+    found = IMAGE_NAME.fullmatch(tag)
+    if not found or len(tag) - len(found["tag"] or "") + (0 if found["registry"] else len("localhost/")) > LONGEST_NAME:
+        raise UsageFault(f"{tag!r} can't be an image's name: it is spelled [REGISTRY/]NAME[:TAG], and NAME is in small letters")
 
 
 @dataclass
@@ -32,8 +51,9 @@ class Image:
 
 
 class Builder(Protocol):
-    def base_of(self, name: str) -> Base:
-        """What an image says of builds that begin with it. It is fetched first where it isn't here."""
+    def base_of(self, name: str, check: Callable[[], None]) -> Base:
+        """What an image says of builds that begin with it. It is fetched first where it isn't here, as long as `check` finds that
+        somebody waits for it."""
 
     def command(self, image: Image) -> tuple[list[str], dict[str, str]]:
         """The command that builds, and its environment."""
@@ -59,8 +79,8 @@ class Buildah:
 
     LOCK_FILE = "buildah-cache-lockfile"
 
-    def __init__(self, home: str) -> None:
-        self.home = home
+    def __init__(self, home: str, room: Callable[[], contextlib.AbstractContextManager[str]] = tempfile.TemporaryDirectory) -> None:
+        self.home, self.room = home, room
         self.storage = ["--root", f"{home}/root", "--runroot", f"{home}/run", "--storage-driver", "vfs"]
 
     def _words(self, *words: str) -> list[str]:
@@ -68,18 +88,22 @@ class Buildah:
             raise FarmFault("builds need the farm to run as root")
         return [need("buildah"), *self.storage, *words]
 
-    def _call(self, *words: str) -> subprocess.CompletedProcess[str]:
-        """A short call, outside any lease. It ends with the agent."""
-        os.makedirs(f"{self.home}/tmp", exist_ok=True)
-        env = {"PATH": os.environ.get("PATH", os.defpath), "HOME": self.home, "TMPDIR": f"{self.home}/tmp"}
-        spec = {"command": self._words(*words), "cwd": "/", "env": env, "binds": [], "parent": os.getpid(), "namespace": False}
-        with launcher(spec) as (call, said):
-            return subprocess.run(call, pass_fds=said, stdin=subprocess.DEVNULL, capture_output=True, text=True, errors="replace")
+    def _call(self, *words: str, check: Callable[[], None] = lambda: None) -> subprocess.CompletedProcess[str]:
+        """A call outside any lease. It ends with the agent."""
+        os.makedirs(self.home, exist_ok=True)
+        with self.room() as room:
+            env = {"PATH": os.environ.get("PATH", os.defpath), "HOME": self.home, "TMPDIR": room}
+            spec = {"command": self._words(*words), "cwd": "/", "env": env, "binds": [], "parent": os.getpid(), "namespace": False}
+            with launcher(spec) as (call, said):
+                process = subprocess.Popen(
+                    call, pass_fds=said, stdin=subprocess.DEVNULL, stdout=subprocess.PIPE, stderr=subprocess.PIPE, text=True, errors="replace"
+                )
+            return whole(process, check, ORPHANED)
 
-    def base_of(self, name: str) -> Base:
+    def base_of(self, name: str, check: Callable[[], None]) -> Base:
         done = self._call("inspect", "--type", "image", name)
         if done.returncode:
-            pulled = self._call("pull", name)
+            pulled = self._call("pull", name, check=check)
             if pulled.returncode:
                 raise BadDockerfile(0, f"the image {name} isn't here and can't be pulled: {' '.join(pulled.stderr.split())[-300:]}")
             done = self._call("inspect", "--type", "image", pulled.stdout.split()[-1])

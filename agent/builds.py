@@ -10,8 +10,8 @@ import threading
 from dataclasses import dataclass, field
 
 from agent import dockerfile
-from agent.builder import Buildah, Builder, Image
-from agent.caller import Caller
+from agent.builder import Buildah, Builder, Image, check_tag
+from agent.caller import Caller, Patience
 from agent.dockertext import BadDockerfile
 from agent.faults import BAD_DOCKERFILE, FENCED_BUILD, LOST, FarmFault
 from agent.node import NodeAgent
@@ -46,6 +46,10 @@ class BuildAsked:
     tag_fenced: bool = False
     env: dict[str, str] = field(default_factory=dict)
 
+    def __post_init__(self) -> None:
+        if self.tag is not None:
+            check_tag(self.tag)
+
     def dockerfile(self) -> str:
         names = [f"{self.context}/Containerfile", f"{self.context}/Dockerfile"]
         if self.file:
@@ -63,7 +67,7 @@ class Builds:
 
     def __init__(self, agent: NodeAgent, builder: Builder | None = None) -> None:
         self.agent = agent
-        self.builder: Builder = builder or Buildah(f"{agent.home}/containers")
+        self.builder: Builder = builder or Buildah(f"{agent.home}/containers", agent.places.rooms.room)
         self.home = f"{agent.home}/builds"
         self.lock = threading.Lock()
         self.under_way = 0
@@ -75,6 +79,7 @@ class Builds:
             if self.under_way == 0 and self.dirty:
                 if os.path.isdir(self.home):
                     self.agent.places.trash.take(self.home)
+                    self.agent.places.forget_within(self.home)
                 self.builder.sweep()
                 self.dirty = False
             self.under_way += 1
@@ -107,10 +112,13 @@ class Build:
 
     def _plan(self, path: str) -> dockerfile.Plan:
         """What the Dockerfile wants. Images that it begins with are fetched now: nobody waits for that under a lease."""
+        def base_of(name: str) -> dockerfile.Base:
+            return self.builds.builder.base_of(name, Patience(self.caller, None).check)
+
         try:
             with open(path, encoding="utf-8", newline="") as file:
                 text = file.read()
-            return dockerfile.plan(text, self.asked.build_args, self.asked.target, self.builds.builder.base_of, self.asked.shared_as)
+            return dockerfile.plan(text, self.asked.build_args, self.asked.target, base_of, self.asked.shared_as)
         except UnicodeDecodeError:
             raise Refused(f"{path} isn't UTF-8") from None
         except BadDockerfile as fault:

@@ -17,6 +17,7 @@ from agent import client
 from agent.faults import FAULT, LOST, MISSING, USAGE, FarmFault, UsageFault, sentence, tell
 from agent.words import version_of, want_of
 
+LOG_MOST = 8 << 20  # bytes of the log of farms that commands start: a longer one is put aside, in place of the one before it
 LAST = 3  # versions of a folder that `status --json` and the page tell
 ENDS = """statuses: the command's or builder's own; 64 wrong words; 65 a Dockerfile that can't be built under leases; 69 a program is missing;
 70 a fault; 75 the lease wasn't granted in time, or what was left doesn't count; 76 a build whose lease had ended"""
@@ -33,6 +34,13 @@ def parser() -> argparse.ArgumentParser:
     for add in (_serving_words, _run_words, _build_words, _asking_words):
         add(verbs)
     return top
+
+
+def seconds(text: str) -> float:
+    """A time that somebody may wait."""
+    if not float(text) >= 0:
+        raise ValueError
+    return float(text)
 
 
 def _verb(verbs: Any, name: str, does: Callable[[argparse.Namespace], int], text: str, example: str) -> argparse.ArgumentParser:
@@ -56,7 +64,7 @@ def _serving_words(verbs: Any) -> None:
         made.add_argument("--verbose", action="store_true", help="says what the filters answer")
     for made in (up, coordinator):
         made.add_argument(
-            "--lease-timeout", type=float, metavar="SECONDS", help="withdraws the leases of a node that wasn't heard for so long"
+            "--lease-timeout", type=seconds, metavar="SECONDS", help="withdraws the leases of a node that wasn't heard for so long"
         )
     for made in (coordinator, node):
         broker = os.environ.get("FARM_BROKER")
@@ -70,7 +78,7 @@ def _run_words(verbs: Any) -> None:
     )
     run.add_argument("--node", type=int, help="the node that runs it (the first one here)")
     run.add_argument("--folder", action="append", default=[], metavar="[ro=]FOLDER=PATH", help="locked:ID, private:ID or shared:ID")
-    run.add_argument("--wait", type=float, metavar="SECONDS", help="waits no longer for the lease: then the status is 75")
+    run.add_argument("--wait", type=seconds, metavar="SECONDS", help="waits no longer for the lease: then the status is 75")
     run.add_argument("--must-commit", action="store_true", help="status 75 where what the command left doesn't count")
     run.add_argument("--on-lost", choices=["stop", "go-on"], default="go-on", help="what a command does whose lease has ended")
     run.add_argument("command", nargs="+", metavar="COMMAND")
@@ -86,7 +94,7 @@ def _build_words(verbs: Any) -> None:
     build.add_argument("--build-arg", action="append", default=[], metavar="K=V")
     build.add_argument("--target", metavar="STAGE")
     build.add_argument("--format", choices=["oci", "docker"])
-    build.add_argument("--wait", type=float, metavar="SECONDS")
+    build.add_argument("--wait", type=seconds, metavar="SECONDS")
     build.add_argument("--on-lost", choices=["stop", "go-on"], default="go-on")
     build.add_argument("--shared-as", choices=["shared", "locked", "private"], default="shared", help="treats shared mounts so")
     build.add_argument("--keep-failed", action="store_true", help="commits also what a failed build left")
@@ -158,6 +166,8 @@ def start_farm(home: str) -> None:
     os.makedirs(home, mode=0o700, exist_ok=True)
     tell(f"no farm runs in {home}: one of one node is started")
     words = [sys.executable, "-IS", os.path.join(TOP, "farm"), "up", "--home", home, "--nodes", "1", "--while-used", "--verbose"]
+    if os.path.exists(f"{home}/farm.log") and os.path.getsize(f"{home}/farm.log") > LOG_MOST:
+        os.replace(f"{home}/farm.log", f"{home}/farm.log.old")
     with open(f"{home}/farm.log", "ab") as log:
         begun = log.tell()
         started = subprocess.Popen(words, stdin=subprocess.DEVNULL, stdout=subprocess.PIPE, stderr=log, start_new_session=True, cwd=home)
@@ -191,10 +201,14 @@ def socket_of(home: str, node: int | None) -> str | None:
 
 def ask_node(home: str, node: int | None, what: dict[str, Any]) -> int:
     """Asks a node, and starts a farm for it where none runs here."""
-    for _ in range(5):
+    for turn in range(5):
         path = socket_of(home, node)
+        is_up = client.is_there(f"{home}/coordinator.sock")
+        if path is None and is_up and turn < 4:
+            time.sleep(0.3)  # its nodes may be about to stand
+            continue
         if path is None:
-            if node not in (None, 1) or client.is_there(f"{home}/coordinator.sock"):
+            if node not in (None, 1) or is_up:
                 raise FarmFault(f"no node {node or ''} runs in {home}".replace("  ", " "))
             if os.path.exists(f"{home}/joined"):
                 raise FarmFault(f"no node runs in {home}, which is of a farm over a broker: farm node N --broker redis://.. runs one")
@@ -213,6 +227,13 @@ def ask_node(home: str, node: int | None, what: dict[str, Any]) -> int:
     raise FarmFault(f"no farm answers in {home}")
 
 
+def own_folder() -> str:
+    try:
+        return os.getcwd()
+    except FileNotFoundError:
+        raise FarmFault("the folder that this was called in is there no more") from None
+
+
 def own_umask() -> int:
     os.umask(mask := os.umask(0o077))
     return mask
@@ -222,7 +243,7 @@ def do_run(args: argparse.Namespace) -> int:
     for word in args.folder:
         want_of(word)  # wrong words are told before a farm is started
     return ask_node(args.home, args.node, {
-        "do": "run", "folders": args.folder, "command": args.command, "cwd": os.getcwd(), "env": dict(os.environ),
+        "do": "run", "folders": args.folder, "command": args.command, "cwd": own_folder(), "env": dict(os.environ),
         "wait": args.wait, "must_commit": args.must_commit, "on_lost": args.on_lost, "umask": own_umask(),
     })
 
@@ -232,7 +253,7 @@ def do_build(args: argparse.Namespace) -> int:
 
     given = [word.partition("=") for word in args.build_arg]
     asked = BuildAsked(
-        context=os.path.abspath(args.context), cwd=os.getcwd(), file=args.file, tag=args.tag, target=args.target,
+        cwd=own_folder(), context=os.path.abspath(args.context), file=args.file, tag=args.tag, target=args.target,
         build_args={key: value if equals else os.environ[key] for key, equals, value in given if equals or key in os.environ},
         format=args.format,
         wait=args.wait, on_lost=args.on_lost, shared_as=args.shared_as, keep_failed=args.keep_failed, tag_fenced=args.tag_fenced,
@@ -270,7 +291,8 @@ def do_status(args: argparse.Namespace) -> int:
         what = f"has {slots} open" if lease["kind"] == "tenure" else f"has {slots}" if slots else "runs a command without folders of its own"
         print(f"node {lease['node']} {what} {_ago(lease['since'])}, ticket {lease['ticket']}")
     for waiting in told["waiting"]:
-        print(f"node {waiting['node']} waits for {', '.join(waiting['folders'])}")
+        left = ", and nobody there wants it any more" if waiting["left"] else ""
+        print(f"node {waiting['node']} waits for {', '.join(waiting['folders'])}{left}")
     for folder in told["folders"]:
         print(f"{folder['slot']} is at version {folder['version']}")
     for node in told["gone"]:

@@ -35,6 +35,7 @@ class CoordinatorAgent:
         self.heard: dict[int, float] = {}  # of a node: the time of day at which it was heard
         self.spoke: dict[int, float] = {}  # of a node: the same by the clock that nobody sets
         self.last: dict[str, tuple[int, list[dict[str, Any]]]] = {}  # of a slot: its last number, and its last versions
+        self.left: dict[int, tuple[int, set[int]]] = {}  # of a node: a life, and its asks for which nobody waits any more
         self.looked: dict[int, float] = {}  # of a node: when it was looked whether its leases live
         self.begun = time.monotonic()
         self.lock = threading.Lock()
@@ -137,6 +138,8 @@ class CoordinatorAgent:
             self._was_heard(int(words[1]))
             if words[2:]:
                 self._tell_ended(int(words[1]), {int(word) for word in words[2:]})
+        if words[0] == "left":
+            self.left[int(words[1])] = (int(words[2]), {int(word) for word in words[3:]})
         if words[0] == "who":
             node, ask, folders = int(words[1]), words[2], set(words[3:])
             with contextlib.suppress(FarmFault):  # while the coordinator refuses, nobody is told
@@ -200,7 +203,10 @@ class CoordinatorAgent:
                 })
             elif words[0] == "parked":
                 node, life, ask = (int(word) for word in words[2:5])
-                told["waiting"].append({"kind": words[1], "node": node, "life": life, "ask": ask, "folders": words[5:]})
+                left_of, asks = self.left.get(node, (0, set()))
+                told["waiting"].append({
+                    "kind": words[1], "node": node, "life": life, "ask": ask, "folders": words[5:], "left": life == left_of and ask in asks,
+                })
             elif words[0] == "last":
                 number, ticket_word, digest = words[2].split(":")
                 told["folders"].append({"slot": words[1], "version": int(number), "ticket": int(ticket_word), "digest": digest})

@@ -4,8 +4,10 @@ Owes the filters nothing: these are for people and scripts.
 """
 from __future__ import annotations
 
+import contextlib
 import os
 import sys
+from typing import Iterator
 
 USAGE = 64  # the words of the command
 BAD_DOCKERFILE = 65
@@ -24,6 +26,16 @@ class FarmFault(Exception):
 def sentence(fault: OSError) -> str:
     """What the system refused."""
     return f"{fault.filename}: {fault.strerror}" if fault.filename else str(fault.strerror or fault)
+
+
+@contextlib.contextmanager
+def named(path: str) -> Iterator[None]:
+    """Gives a file's name to what the system refuses of it without one, as it does where a disk is full."""
+    try:
+        yield
+    except OSError as fault:
+        fault.filename = fault.filename or path
+        raise
 
 
 class UsageFault(FarmFault):

@@ -1,4 +1,5 @@
-"""What agents tell each other beside the filters' messages: a lease has ended, who holds a folder, a node is heard, a content is missed.
+"""What agents tell each other beside the filters' messages: a lease has ended, who holds a folder, a node is heard, a content is missed,
+nobody waits for an ask.
 
 Owes the filters that nothing of it reaches them. A hint changes only what people are shown and how early a lost execution stops. Hints
 are sealed, under a key that is derived from the farm's, so that nothing an agent seals opens as a message of a filter.

@@ -96,7 +96,7 @@ def command(spec: dict[str, Any]) -> NoReturn:
     except FileNotFoundError as fault:
         fail(f"{spec['cwd'] if fault.filename == spec['cwd'] else words[0]}: no such file or command", 127)
     except (OSError, ValueError) as fault:
-        fail(f"{words[0]}: {fault}", 126)
+        fail(f"{words[0]}: {getattr(fault, 'strerror', '') or fault}", 126)
 
 
 def tend(child: int, is_whole_group: bool) -> int:

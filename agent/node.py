@@ -23,12 +23,14 @@ from agent.places import Places
 from agent.shared import SharedFolders
 from agent.store import ChunksMissing, Store
 from agent.transport import COORDINATOR, Transport, address_of, node_address
+from agent.trees import NotMade
 from agent.words import EMPTY, Grant, Slot, grant_of, versions_of
 
 AWAITED = ("took", "learned", "dropped", "denied", "blob", "recalled", "gave")  # notes that somebody may wait for
 STATES = ("pending", "granted", "running", "committed", "fenced", "released", "content")  # answers to questions
 STORE_FAULT = "refused StoreFault"
 RECALL = re.compile(r"recall [0-9]{1,4} [0-9]{1,20} ([0-9]{1,20}) ", re.ASCII)
+UNHEARD = "the coordinator hasn't answered yet: it may not run, or have another broker or key"
 HEARTBEAT = 2.0
 LOOK = 0.2  # seconds after which it is seen that nobody waits any more
 REMEMBERED = 1024  # commits
@@ -108,11 +110,13 @@ class NodeAgent:
         words = note.split(" ")
         if words[0] == "life":
             self.life = int(words[1])
+            self.unwanted = {each for each in list(self.unwanted) if each[0] == self.talk.epoch}
         if note not in ("nothing", "resent") and words[0] not in STATES:
             self.log(note[:160])
         if words[0] == "took":
             grant = grant_of(words[1:])
             if (self.talk.epoch, grant.ask) in self.unwanted:
+                self.unwanted.discard((self.talk.epoch, grant.ask))
                 threading.Thread(target=self.give_back, args=(grant.ticket, self.talk.epoch), daemon=True).start()
         if words[0] == "learned":
             self.learned[int(words[1])] = versions_of(words[2:])
@@ -134,10 +138,8 @@ class NodeAgent:
         if data is None:
             return False
         try:
-            with self.places.rooms.room() as room:
-                with open(f"{room}/content", "wb") as file:
-                    file.write(data)
-                return not self.call(line_of("blob", file.name)).is_refused
+            with self.places.rooms.file(data) as file:
+                return not self.call(line_of("blob", file)).is_refused
         except (LifeOver, OSError):  # the other nodes are asked for it
             return False
 
@@ -153,6 +155,7 @@ class NodeAgent:
                     heard = time.monotonic()
                     here = " ".join(map(str, ["here", self.node, *list(self.running)]))
                     self.setup.transport.send(COORDINATOR, self.hints.seal(here))
+                    self._tell_left()
                 if line is not None:
                     self.receive(line)
             except LifeOver:
@@ -250,7 +253,7 @@ class NodeAgent:
             if words[0] == "pending" and time.monotonic() > due:
                 due = time.monotonic() + 2.0
                 self.setup.transport.send(COORDINATOR, self.hints.seal(f"who {self.node} {ask} {' '.join(folders)}"))
-            held = self.holders.get(ask, "the coordinator hasn't answered yet" if time.monotonic() > silent else "")
+            held = self.holders.get(ask, UNHEARD if time.monotonic() > silent else "")
             if words[0] == "pending" and held and held != told:
                 told = held
                 said = patience.of_shared if any(folder.startswith("shared:") for folder in folders) else ""
@@ -277,6 +280,15 @@ class NodeAgent:
             words = self.call(f"state {ask}", epoch).note.split(" ")
             if words[0] == "granted":
                 self.give_back(grant_of(words[1:]).ticket, epoch)
+            if words[0] in ("granted", "denied", "none"):
+                self.unwanted.discard((epoch, ask))
+        self._tell_left()
+
+    def _tell_left(self) -> None:
+        """Says for which asks nobody waits any more: no call takes them back, so they stand until they are granted."""
+        asks = [str(ask) for epoch, ask in list(self.unwanted) if epoch == self.talk.epoch]
+        if asks:
+            self.setup.transport.send(COORDINATOR, self.hints.seal(" ".join(["left", str(self.node), str(self.life), *asks])))
 
     def begin(self, ticket: int, epoch: int, patience: Patience) -> None:
         """Begins an execution, once the contents of its bases are here."""
@@ -344,6 +356,18 @@ class NodeAgent:
 
         self.wait(epoch, patience, is_here)
         return index
+
+    def fill(self, slot: Slot, path: str, epoch: int, patience: Patience) -> None:
+        """Makes a path that is held what a slot begins from. What is spoilt in the store is got anew, from where it is right."""
+        gone = Patience(patience.caller, None).check
+        index = self.content(slot, epoch, patience)
+        try:
+            self.places.fill(self.store, index, path, gone)
+        except NotMade:
+            if not self.store.mend(index):
+                raise
+            self.log(f"chunks of {slot.name} were spoilt in the store")
+            self.places.fill(self.store, self.content(slot, epoch, patience), path, gone)
 
     def _index(self, slot: Slot, epoch: int) -> bytes:
         if slot.digest == EMPTY:

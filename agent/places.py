@@ -6,14 +6,13 @@ once. Nothing is replaced that isn't a folder which the farm itself put there.
 from __future__ import annotations
 
 import contextlib
-import errno
 import fcntl
 import hashlib
 import json
 import os
+import random
 import re
 import shutil
-import socket
 import subprocess
 import tempfile
 import threading
@@ -21,9 +20,10 @@ import time
 from typing import Any, Callable, Iterator
 
 from agent import trees
-from agent.faults import FarmFault, UsageFault
+from agent.claims import claim
+from agent.faults import FarmFault, UsageFault, named
 from agent.standing import identity, signature
-from agent.store import Store, put_file
+from agent.store import NEW, Store, put_file
 from agent.trees import is_folder
 from agent.words import short_name
 
@@ -76,6 +76,15 @@ class Rooms:
             own = self.own = self.own or self._begin()
         with tempfile.TemporaryDirectory(dir=own) as room:
             yield room
+
+    @contextlib.contextmanager
+    def file(self, data: bytes) -> Iterator[str]:
+        """The path of a file with these bytes."""
+        with self.room() as room:
+            path = f"{room}/content"
+            with named(path), open(path, "wb") as file:
+                file.write(data)
+            yield path
 
     def _begin(self) -> str:
         os.makedirs(self.home, exist_ok=True)
@@ -133,41 +142,34 @@ class Taken:
 TAKEN = Taken()  # by commands of all nodes of this process
 
 
-def _bound(lock: socket.socket, path: str) -> bool:
-    """Gives a socket the path's name on this machine, which one has at a time, whichever home its farm has: until all who have it close it."""
-    folder, name = os.path.split(path)
-    os.makedirs(folder, exist_ok=True)
-    here = os.stat(folder)
-    try:
-        lock.bind(f"\0farm-path-{here.st_dev}-{here.st_ino}-{short_name(name, 'name')}")
-        return True
-    except OSError as fault:
-        if fault.errno != errno.EADDRINUSE:
-            raise
-        return False
-
-
 class Places:
     def __init__(self, home: str) -> None:
         self.home = f"{home}/places"
         os.makedirs(self.home, exist_ok=True)
         self.trash = Trash(home)
         self.rooms = Rooms(home, self.trash)
-        self.locks: dict[str, int] = {}  # of a path that is held: the descriptor that holds it
+        self.locks: dict[str, list[int]] = {}  # of a path that is held: the descriptors that hold it
+
+    def sweep(self) -> None:
+        """Removes what an agent of this node left that was killed. None is there any more."""
+        with self.rooms.room():  # it begins with that
+            for name in os.listdir(self.home):
+                if name.startswith(NEW):
+                    os.unlink(f"{self.home}/{name}")
 
     @contextlib.contextmanager
     def held(self, path: str, check: Callable[[], None] = lambda: None) -> Iterator[None]:
-        """Holds a path, waiting until no other command of this machine has it, and none of this process what is within it or around it, and
-        nothing that a killed agent began fills it. Who holds several takes them in the order of `path_order`, or two would wait for each other."""
+        """Holds a path, waiting until no other command of this machine has it, or what is within it or around it, and nothing that a killed
+        agent began fills it. Who holds several takes them in the order of `path_order`, or two would wait for each other."""
         while not TAKEN.take(path):
             check()
             time.sleep(0.05)
         try:
-            with socket.socket(socket.AF_UNIX) as lock:
-                while not _bound(lock, path):
-                    check()
-                    time.sleep(0.05)
-                self.locks[path] = lock.fileno()
+            while (claimed := claim(path)) is None:
+                check()
+                time.sleep(random.uniform(0.03, 0.08))  # two who see each other don't look again at once
+            with contextlib.ExitStack() as held:
+                self.locks[path] = [held.enter_context(each).fileno() for each in claimed]
                 yield
         finally:
             self.locks.pop(path, None)
@@ -178,12 +180,7 @@ class Places:
 
     def _read(self, path: str) -> list[Any]:
         """What is known of a path: itself, the folder's device and identity, and the version that it holds with its signature."""
-        try:
-            with open(self._known(path)) as file:
-                known = json.load(file)
-            return known if isinstance(known, list) else []
-        except (OSError, ValueError):
-            return []
+        return _list_of(self._known(path))
 
     def _note(self, path: str, digest: str | None, mark: str | None) -> None:
         put_file(self._known(path), json.dumps([path, os.lstat(path).st_dev, identity(path), digest, mark]).encode())
@@ -215,13 +212,21 @@ class Places:
         with contextlib.suppress(FileNotFoundError):
             os.unlink(self._known(path))
 
-    def fill(self, store: Store, index: bytes, path: str) -> None:
-        """Makes a path that is held what an index says. Where it still is that nothing is done."""
+    def forget_within(self, folder: str) -> None:
+        """Nobody uses any path within a folder any more, or will."""
+        for name in os.listdir(self.home):
+            known = _list_of(f"{self.home}/{name}")
+            if known and is_within(str(known[0]), os.path.realpath(folder)):
+                self.forget(str(known[0]))
+
+    def fill(self, store: Store, index: bytes, path: str, check: Callable[[], None] = lambda: None) -> None:
+        """Makes a path that is held what an index says, as long as `check` finds that somebody waits. Where it still is that nothing is done."""
         digest = hashlib.sha256(index).hexdigest()
         if index and self._standing(path) == digest:
             return
         self.clear(path)
-        trees.extract(store, index, path, self.locks.get(path))
+        with self.rooms.room() as room:
+            trees.extract(store, index, path, self.locks.get(path, ()), check, room)
         self._note(path, digest, signature(path) if index else None)
 
     def left(self, path: str) -> None:
@@ -242,11 +247,22 @@ class Places:
                     return index, store.publish(index)
             self._note(path, None, None)
             before = signature(path)
-            index = trees.make(store, path)
+            with self.rooms.room() as room:
+                index = trees.make(store, path, room)
             digest = store.publish(index)
             after = signature(path)
             self._note(path, digest, after if after == before else None)
             return index, digest
+
+
+def _list_of(path: str) -> list[Any]:
+    """The list that a file holds; an empty one where it holds none."""
+    try:
+        with open(path) as file:
+            known = json.load(file)
+        return known if isinstance(known, list) else []
+    except (OSError, ValueError):
+        return []
 
 
 def mounts() -> list[str]:

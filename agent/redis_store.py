@@ -65,10 +65,13 @@ class RedisStore:
         self._send(digest, index, anew=False)
         return digest
 
+    def mend(self, index: bytes) -> bool:
+        return self.folder.mend(index)
+
     def offer(self, digest: str) -> bool:
         """Sends a content anew, all of it, where all of it is in this machine's folder."""
         index = self.folder.index(digest)
-        if not index:
+        if not index or self.folder.spoilt(index):
             return False
         try:
             self.folder.fetch(index)
@@ -78,21 +81,22 @@ class RedisStore:
         return True
 
     def _send(self, digest: str, index: bytes, anew: bool) -> None:
-        end = time.monotonic() + (0 if anew else AWAY)
+        """Begins again after each fault, since a server that was away may have lost what it took. That it gets further renews its time."""
+        names, patience = chunk_names(index), 0.0 if anew else AWAY
+        furthest, end = 0, time.monotonic() + patience
         while True:
             try:
-                return self._send_all(digest, index, anew)
+                for at in range(0, len(names), AT_ONCE):
+                    self._send_chunks(names[at : at + AT_ONCE], anew)
+                    if at >= furthest:
+                        furthest, end = at + AT_ONCE, time.monotonic() + patience
+                self.server.calls([self._script(GIVE, self._name("index", digest), index)])
+                return
             except RedisFault as fault:
                 is_away = isinstance(fault, RedisAway) or str(fault).startswith("LOADING")
                 if not is_away or time.monotonic() > end:
                     raise FarmFault(f"the store over Redis took no contents: {fault}") from None
             time.sleep(0.5)
-
-    def _send_all(self, digest: str, index: bytes, anew: bool) -> None:
-        names = chunk_names(index)
-        for at in range(0, len(names), AT_ONCE):
-            self._send_chunks(names[at : at + AT_ONCE], anew)
-        self.server.calls([self._script(GIVE, self._name("index", digest), index)])
 
     def _send_chunks(self, names: list[str], anew: bool) -> None:
         there = [0] * len(names) if anew else self.server.calls([self._script(FIND, self._name("chunk", name)) for name in names])

@@ -152,8 +152,7 @@ class Run:
         self.job.left()
         if status and not self.job.keeps_failed:
             return status, []
-        room = held.enter_context(agent.places.rooms.room())
-        return status, [self._keep(slot, room) for slot in grant.slots if slot.writable]
+        return status, [(slot.name, held.enter_context(self._kept(slot))) for slot in grant.slots if slot.writable]
 
     def _waits_for(self, path: str) -> Callable[[], None]:
         told = False
@@ -168,14 +167,12 @@ class Run:
         return check
 
     def _fill(self, want: Want, slot: Slot, path: str) -> None:
-        self.agent.places.fill(self.agent.store, self.agent.content(slot, self.epoch, self.patience), path)
+        self.agent.fill(slot, path, self.epoch, self.patience)
         self.job.filled(want, path, slot.base == 0)
 
-    def _keep(self, slot: Slot, room: str) -> tuple[str, str]:
-        index, digest = self.agent.places.keep(self.agent.store, self.paths[slot.folder])
-        with open(f"{room}/{digest}", "wb") as file:
-            file.write(index)
-        return slot.name, file.name
+    def _kept(self, slot: Slot) -> contextlib.AbstractContextManager[str]:
+        """Keeps what a slot's path holds. The file of its index."""
+        return self.agent.places.rooms.file(self.agent.places.keep(self.agent.store, self.paths[slot.folder])[0])
 
     def _command(self, ticket: int, tenures: dict[str, Tenure], binds: list[tuple[str, str, bool]]) -> int:
         agent, job = self.agent, self.job

@@ -144,6 +144,7 @@ def _begin_node(served: Served, setup: Setup, number: int) -> None:
     agent = NodeAgent(number, served.wanted.most, setup)
     agent.talk.start()
     served.nodes.append(agent)
+    agent.places.sweep()
     builds = Builds(agent)
     threading.Thread(target=agent.serve, daemon=True).start()
     _serve(served, f"node{number}", lambda asked, link: answer_command(agent, builds, served.wanted, asked, link))

@@ -5,7 +5,6 @@ executions left. A folder is closed, and so committed, when its last execution h
 """
 from __future__ import annotations
 
-import os
 import threading
 from dataclasses import dataclass
 from typing import TYPE_CHECKING, Callable, Iterable
@@ -129,7 +128,7 @@ class SharedFolders:
             slot = grant.slots[0]
             path = f"{agent.home}/shared/{short_name(folder)}"
             with agent.places.held(path):
-                agent.places.fill(agent.store, agent.content(slot, epoch, patience), path)
+                agent.fill(slot, path, epoch, patience)
             tenure = Tenure(ask, grant.ticket, slot, path, epoch)
             prepare(tenure)
             return tenure
@@ -162,18 +161,15 @@ class SharedFolders:
             return Closed(f"{folder} is given back as it was")
         try:
             index, _ = agent.places.keep(agent.store, tenure.path)
-            file = f"{tenure.path}.left"
-            with open(file, "wb") as stream:
-                stream.write(index)
             note = ""
+            with agent.places.rooms.file(index) as file:
 
-            def is_finished() -> bool:  # an execution is over for the filter only when its own commit was sent
-                nonlocal note
-                note = agent.call(line_of("finish", str(tenure.ticket), f"{slot.name}={file}"), tenure.epoch).note
-                return note != "refused TenureInUse"
+                def is_finished() -> bool:  # an execution is over for the filter only when its own commit was sent
+                    nonlocal note
+                    note = agent.call(line_of("finish", str(tenure.ticket), f"{slot.name}={file}"), tenure.epoch).note
+                    return note != "refused TenureInUse"
 
-            agent.wait(tenure.epoch, Patience(None, None), is_finished)
-            os.unlink(file)
+                agent.wait(tenure.epoch, Patience(None, None), is_finished)
             if note != f"finished {tenure.ticket}":
                 raise FarmFault(note)
             ending = agent.ending(tenure.ask, tenure.ticket, tenure.epoch)

@@ -14,10 +14,11 @@ import tempfile
 import time
 from typing import Iterator, Protocol
 
-from agent.chunks import chunk_names, chunk_path, is_kept
-from agent.faults import FarmFault
+from agent.chunks import chunk_names, chunk_path, chunk_sizes, is_kept, is_right
+from agent.faults import FarmFault, named
 from agent.words import DIGEST, EMPTY
 
+NEW = ".new-"  # what the name of a file begins with that isn't whole yet
 _libc = ctypes.CDLL(None, use_errno=True)
 
 
@@ -40,6 +41,9 @@ class Store(Protocol):
     def fetch(self, index: bytes) -> None:
         """Sees to it that the chunks of an index are in the folder."""
 
+    def mend(self, index: bytes) -> bool:
+        """Forgets the chunks of an index that are spoilt here, so that they are missing. Whether there was one."""
+
     def offer(self, digest: str) -> bool:
         """Gives the shared store what another machine misses there, where it is here. Whether it did."""
 
@@ -58,12 +62,13 @@ def put_file(path: str, data: bytes) -> None:
     """A file that lasts, whole or not at all: written beside, synced, renamed, and its folder synced."""
     folder = os.path.dirname(path)
     os.makedirs(folder, exist_ok=True)
-    handle, beside = tempfile.mkstemp(prefix=".new-", dir=folder)
+    handle, beside = tempfile.mkstemp(prefix=NEW, dir=folder)
     try:
-        with os.fdopen(handle, "wb") as file:
-            file.write(data)
-            file.flush()
-            os.fsync(file.fileno())
+        with named(path):
+            with os.fdopen(handle, "wb") as file:
+                file.write(data)
+                file.flush()
+                os.fsync(file.fileno())
         os.rename(beside, path)
     except BaseException:
         os.unlink(beside)
@@ -122,6 +127,20 @@ class FolderStore:
         missing = [name for name in chunk_names(index) if not is_kept(self.chunks, name)]
         if missing:
             raise FarmFault(f"{len(missing)} chunks of a version aren't in {self.chunks}, {missing[0]} among them")
+
+    def spoilt(self, index: bytes) -> list[str]:
+        """The chunks of an index that are here, and aren't what their names say."""
+        return [name for name, size in chunk_sizes(index).items() if is_kept(self.chunks, name) and not is_right(self.chunks, name, size)]
+
+    def mend(self, index: bytes) -> bool:
+        spoilt = self.spoilt(index)
+        if not spoilt:
+            return False
+        with self._locked(fcntl.LOCK_EX):  # nobody counts on them just now
+            for name in spoilt:
+                with contextlib.suppress(FileNotFoundError):
+                    os.unlink(chunk_path(self.chunks, name))
+        return True
 
     def offer(self, digest: str) -> bool:
         return False  # all see one folder

@@ -6,11 +6,15 @@ from __future__ import annotations
 
 import os
 import shutil
+import signal
+import subprocess
+from typing import Callable
 
 from agent.faults import Missing
 
 PACKAGES = {"ip": "iproute2"}  # where a package has another name
 TOP = os.path.dirname(os.path.dirname(os.path.abspath(__file__)))
+LOOK = 0.2  # seconds after which it is seen that nobody waits any more
 
 
 def need(tool: str) -> str:
@@ -33,3 +37,18 @@ def farmctl() -> str:
     if not os.access(built, os.X_OK):
         raise Missing("the farm's program isn't built yet: ./farmctl --help proves and builds it, once")
     return built
+
+
+def whole(process: subprocess.Popen[str], check: Callable[[], None], ending: int = signal.SIGKILL) -> subprocess.CompletedProcess[str]:
+    """What came of a program, once it has ended. Where `check` finds that nobody waits for it any more it is ended by this signal."""
+    with process:
+        try:
+            while True:
+                try:
+                    said, errors = process.communicate(timeout=LOOK)
+                    return subprocess.CompletedProcess(process.args, process.returncode, said, errors)
+                except subprocess.TimeoutExpired:
+                    check()
+        except BaseException:
+            process.send_signal(ending)
+            raise

@@ -12,12 +12,12 @@ import shutil
 import stat
 import subprocess
 import tempfile
-from typing import Iterator, Sequence
+from typing import Callable, Iterator, Sequence
 
-from agent.chunks import chunk_names, chunk_path, is_kept
+from agent.chunks import chunk_names, chunk_path, is_whole
 from agent.faults import FarmFault
 from agent.store import Store
-from agent.tools import need
+from agent.tools import need, whole
 
 # What an index keeps of a file. A `--without=all` beside these would undo them, wherever it stood.
 FEATURES = ("--with=permissions", "--with=symlinks", "--with=nsec-time", "--with=32bit-uids", "--with=fifos")
@@ -27,11 +27,18 @@ EXCLUDE = ".caexclude"
 LONGEST = 237  # bytes of the name of what is no folder: it is made under a name that is longer
 
 
-def _casync(*words: str, keeps: Sequence[int] = ()) -> None:
-    call = [need("casync"), *words]
-    done = subprocess.run(call, pass_fds=keeps, stdin=subprocess.DEVNULL, capture_output=True, text=True, errors="replace")
+class NotMade(FarmFault):
+    """casync couldn't make a folder of what the store has."""
+
+
+def _casync(*words: str, keeps: Sequence[int] = (), check: Callable[[], None] = lambda: None) -> None:
+    process = subprocess.Popen(
+        [need("casync"), *words], pass_fds=keeps, stdin=subprocess.DEVNULL, stdout=subprocess.PIPE, stderr=subprocess.PIPE, text=True, errors="replace"
+    )
+    done = whole(process, check)
     if done.returncode:
-        raise FarmFault(f"casync {words[0]}: {' '.join(done.stderr.split())[-300:]}")
+        kind = NotMade if words[0] == "extract" else FarmFault
+        raise kind(f"casync {words[0]}: {' '.join(done.stderr.split())[-300:]}")
 
 
 def _excludes(path: str) -> Iterator[tuple[str, list[str]]]:
@@ -76,33 +83,34 @@ def _check(path: str) -> None:
                 raise FarmFault(f"{whole} can't be kept: its name has more than {LONGEST} bytes")
 
 
-def _make(store: Store, path: str) -> bytes:
-    with tempfile.TemporaryDirectory() as room:
+def _make(store: Store, path: str, beside: str | None) -> bytes:
+    with tempfile.TemporaryDirectory(dir=beside) as room:
         _casync("make", f"--store={store.chunks}", *FEATURES, WHOLE, f"{room}/made.caidx", path)
         with open(f"{room}/made.caidx", "rb") as file:
             return file.read()
 
 
 def _drop_hollow(store: Store, index: bytes) -> bool:
-    """Removes the chunks of an index that have no bytes, which casync takes for chunks that are there. Whether there was one."""
-    hollow = [name for name in chunk_names(index) if not is_kept(store.chunks, name)]
+    """Removes the chunks of an index that have no bytes or were cut short, which casync takes for chunks that are there. Whether there was
+    one."""
+    hollow = [name for name in chunk_names(index) if not is_whole(store.chunks, name)]
     for name in hollow:
         with contextlib.suppress(FileNotFoundError):
             os.unlink(chunk_path(store.chunks, name))
     return bool(hollow)
 
 
-def make(store: Store, path: str) -> bytes:
+def make(store: Store, path: str, beside: str | None = None) -> bytes:
     """The index of a folder, whose chunks are in the store's folder then. Hold `store.making` from before it until the index is
-    published."""
+    published. What isn't kept lies in the folder `beside`, else where the system has such files."""
     try:
         _check(path)
         hidden = _hide_excludes(path)
     except RecursionError:
         raise FarmFault(f"{path} has too many folders within folders") from None
     try:
-        index = _make(store, path)
-        return _make(store, path) if _drop_hollow(store, index) else index
+        index = _make(store, path, beside)
+        return _make(store, path, beside) if _drop_hollow(store, index) else index
     finally:
         if hidden:
             _show_excludes(path)
@@ -115,21 +123,32 @@ def keep(store: Store, path: str) -> tuple[bytes, str]:
         return index, store.publish(index)
 
 
-def extract(store: Store, index: bytes, path: str, lock: int | None = None) -> None:
-    """Makes a folder, which isn't there yet or is empty, what an index says. What fills it has the lock too, and may outlive the agent."""
+def extract(
+    store: Store, index: bytes, path: str, locks: Sequence[int] = (), check: Callable[[], None] = lambda: None, beside: str | None = None
+) -> None:
+    """Makes a folder, which isn't there yet or is empty, what an index says. What fills it has the locks too, and may outlive the agent."""
     os.makedirs(path, exist_ok=True)
     if not index:
         return
     store.fetch(index)
-    with tempfile.NamedTemporaryFile(suffix=".caidx") as file:
+    with tempfile.NamedTemporaryFile(suffix=".caidx", dir=beside) as file:
         file.write(index)
         file.flush()
-        _casync("extract", f"--store={store.chunks}", *FEATURES, file.name, path, keeps=[] if lock is None else [lock])
+        _casync("extract", f"--store={store.chunks}", *FEATURES, file.name, path, keeps=locks, check=check)
     _show_excludes(path)
 
 
 def extract_whole(store: Store, index: bytes, path: str) -> None:
     """Makes a path, which is free or an empty folder, what an index says, or leaves it as it was."""
+    try:
+        _extract_whole(store, index, path)
+    except NotMade:
+        if not store.mend(index):
+            raise
+        _extract_whole(store, index, path)
+
+
+def _extract_whole(store: Store, index: bytes, path: str) -> None:
     was_there = os.path.isdir(path)
     try:
         extract(store, index, path)

@@ -20,7 +20,7 @@ DIGEST = re.compile(r"[0-9a-f]{64}")
 
 def escaped(text: str) -> str:
     """An id as a folder's text spells it: of the printable ASCII, `#`, `%` and `@` are escaped, and so is all else."""
-    return "".join(chr(b) if 0x21 <= b <= 0x7E and b not in b"#%@" else f"%{b:02X}" for b in text.encode())
+    return "".join(chr(b) if 0x21 <= b <= 0x7E and b not in b"#%@" else f"%{b:02X}" for b in text.encode(errors="surrogateescape"))
 
 
 def folder_text(sharing: str, identifier: str) -> str:

@@ -59,7 +59,7 @@ class Browser:
         """What an expression is on the page."""
         return self.call("Runtime.evaluate", expression=script, returnByValue=True)["result"].get("value")
 
-    def wait(self, script: str, seconds: float = 20.0) -> bool:
+    def wait(self, script: str, seconds: float = 180.0) -> bool:
         """Waits until an expression is true."""
         end = time.monotonic() + seconds
         while time.monotonic() < end:

@@ -4,6 +4,7 @@ from __future__ import annotations
 import contextlib
 import io
 import os
+import re
 import shutil
 import signal
 import socket
@@ -22,6 +23,7 @@ TOP = os.path.dirname(os.path.dirname(HERE))
 FARM = (sys.executable, "-IS", f"{TOP}/farm")  # without what the distribution adds it starts faster
 PRACTICE = os.path.join(HERE, "practice.py")
 is_root = os.geteuid() == 0
+PATIENCE = 180.0  # seconds for which something is waited for that comes at once, but for a machine that has much else to do
 
 
 def needs(tool: str) -> str:
@@ -82,7 +84,7 @@ class FarmTest(RoomTest):
         for up in self.ups:
             if up.poll() is None:
                 up.terminate()
-            up.wait(10)
+            up.wait(PATIENCE)
             if up.stdout:
                 up.stdout.close()
         if os.path.exists(f"{self.home}/pid"):  # of a farm that a command started for itself
@@ -92,10 +94,7 @@ class FarmTest(RoomTest):
                 os.kill(pid, 15)
             except ProcessLookupError:
                 pass
-            for _ in range(100):
-                if not os.path.exists(f"/proc/{pid}"):
-                    break
-                time.sleep(0.02)
+            until(lambda: is_over(pid))
 
     def up(self, *words: str) -> subprocess.Popen[str]:
         """Starts a part of the farm, and waits until it stands."""
@@ -129,17 +128,39 @@ class FarmTest(RoomTest):
     def farm(self, *words: str, status: int = 0) -> subprocess.CompletedProcess[str]:
         done = subprocess.run(
             [*FARM, *words], env=self.env, stdin=subprocess.DEVNULL, capture_output=True, text=True,
-            cwd=self.room, timeout=60,
+            cwd=self.room, timeout=PATIENCE,
         )
         self.assertEqual(done.returncode, status, f"{words}: {done.stdout}{done.stderr}")
         return done
 
     def wait_for(self, path: str) -> None:
-        for _ in range(500):
-            if os.path.exists(path):
+        until(lambda: os.path.exists(path), f"there is no {path}")
+
+    def hear(self, process: subprocess.Popen[str], pattern: str) -> None:
+        """Waits until a command says this."""
+        assert process.stderr
+        said = []
+        while line := process.stderr.readline():
+            said.append(line)
+            if re.search(pattern, line):
                 return
-            time.sleep(0.02)
-        self.fail(f"no {path}")
+        self.fail(f"it ended without {pattern!r}, and said {said}")
+
+
+def is_over(pid: int) -> bool:
+    """Whether a process has ended. It may be one of this process, which `asked` started."""
+    with contextlib.suppress(ChildProcessError):
+        os.waitpid(pid, os.WNOHANG)
+    return not os.path.exists(f"/proc/{pid}")
+
+
+def until(holds: Callable[[], object], else_what: str = "what was waited for didn't come") -> None:
+    """Waits until something holds."""
+    end = time.monotonic() + PATIENCE
+    while not holds():
+        if time.monotonic() > end:
+            raise AssertionError(else_what)
+        time.sleep(0.02)
 
 
 @contextlib.contextmanager
@@ -158,11 +179,11 @@ def redis_server(room: str, *words: str) -> Iterator[str]:
 
 def wait_port(port: int) -> None:
     """Waits until something listens there."""
-    for _ in range(500):
+    def listens() -> bool:
         with socket.socket() as link:
-            if link.connect_ex(("127.0.0.1", port)) == 0:
-                return
-        time.sleep(0.02)
+            return link.connect_ex(("127.0.0.1", port)) == 0
+
+    until(listens)
 
 
 def free_port() -> int:

@@ -3,10 +3,13 @@ from __future__ import annotations
 
 import os
 import shutil
+import signal
+import socket
+import subprocess
 import unittest
 from unittest import mock
 
-from agent.builder import Buildah
+from agent.builder import Buildah, check_tag
 from agent.executions import can_have_namespaces
 from agent.faults import FarmFault
 
@@ -19,6 +22,9 @@ COPY busybox /bin/busybox
 ARG WHO
 RUN --mount=type=cache,id=../../x,sharing=locked,target=/l --mount=type=cache,target=/s ["/bin/busybox", "sh", "/work"]
 """
+GOOD_TAGS = ("a", "a/b:1.2-x_Y", "Foo.com/bar", "localhost:5000/a__b/c--d", "x:" + "a" * 128, "a" * 245, "a:5/c", "1.2.3.4:5/x", "0123456789abcdef" * 4)
+BAD_TAGS = ("", "App", "Foo/bar", "a b", "a..b", "a_.b", "a-", "a/", "/a", "a//b", "a:b/c", ":x", "x:1:2", "x:-1", "x:" + "a" * 129, "a" * 246, "docker://x",
+            "sha256:aa", "a@sha256:" + "a" * 64, "é", "a.b/C", "--all", "a\n")
 SCRIPT = "cat /l/f /s/f; echo l $WHO >> /l/f; echo s $WHO >> /s/f; [ $WHO != bad ]\n"
 
 
@@ -45,6 +51,33 @@ class Builds(support.FarmTest):
         self.asked("get", "shared:/s", self.path("shared"))
         self.assertEqual((self.read("got/f"), self.read("shared/f")), ("l one\n", "s one\ns bad\n"))
         self.assertEqual(os.listdir(self.path("got")), ["f"])
+        self.tags()
+
+    def tags(self) -> None:
+        """buildah takes the names that are taken here, and no other ones."""
+        storage = Buildah(f"{self.home}/node1/containers").storage
+        for tags in (GOOD_TAGS, *((tag,) for tag in BAD_TAGS[::4])):
+            done = subprocess.run(["buildah", *storage, "tag", "app", "--", *tags], capture_output=True, text=True)
+            self.assertEqual(done.returncode == 0, tags == GOOD_TAGS, f"{tags}: {done.stderr}")
+
+
+@unittest.skipUnless(support.has("buildah"), support.needs("buildah"))
+@unittest.skipUnless(support.is_root, "builds need root")
+class Pulled(support.FarmTest):
+    def test_left_early(self) -> None:
+        """Who is told to end while an image is pulled ends, and so does the pull."""
+        with socket.create_server(("127.0.0.1", 0)) as registry:
+            self.write("context/Dockerfile", f"FROM 127.0.0.1:{registry.getsockname()[1]}/x\n")
+            build = self.begin("build", "context")
+            registry.settimeout(support.PATIENCE)
+            link, _ = registry.accept()  # it is asked, and never answers
+            build.send_signal(signal.SIGINT)
+            self.assertIn("nobody waits", build.communicate(timeout=support.PATIENCE)[1])
+            self.assertEqual(build.returncode, 75)
+            with link:
+                link.settimeout(support.PATIENCE)
+                while link.recv(1 << 16):  # until who pulled has ended
+                    pass
 
 
 class Refused(support.FarmTest):
@@ -55,8 +88,12 @@ class Refused(support.FarmTest):
                 (["--target", "nowhere"], "refused: no stage is called nowhere")]
         for words, said in rows:
             self.assertRegex(self.asked("build", *words, self.path("context"), status=65), said)
+        for tag in BAD_TAGS:
+            self.assertIn("can't be an image's name", self.asked("build", f"--tag={tag}", self.path("context"), status=64), tag)
+        for tag in GOOD_TAGS:
+            check_tag(tag)
         with mock.patch("os.geteuid", return_value=1), self.assertRaisesRegex(FarmFault, "as root"):
-            Buildah(self.home).base_of("x")
+            Buildah(self.home).base_of("x", lambda: None)
 
 
 if __name__ == "__main__":

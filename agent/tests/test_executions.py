@@ -48,7 +48,7 @@ class Runs:
 
     def status(self, *words: str) -> int | None:
         execution = self.start(*words)
-        status = execution.wait(10)
+        status = execution.wait(support.PATIENCE)
         self.executions.over(execution)
         return status
 
@@ -59,33 +59,26 @@ class Runs:
         rows = [(("true",), 0), (("nowhere",), 127), (("sh", "-c", "exit 7"), 7), (("sh", "-c", "kill -9 $$"), 137), (("/nowhere/x",), 127), (("/etc/passwd",), 126)]
         for words, wanted in rows:
             self.assertEqual(self.status(*words), wanted, words)  # type: ignore[attr-defined]
-        self.assertIn("farm: nowhere: no such file or command\n", self.said())  # type: ignore[attr-defined]
+        for said in ("farm: nowhere: no such file or command\n", "farm: /etc/passwd: Permission denied\n"):
+            self.assertIn(said, self.said())  # type: ignore[attr-defined]
 
     def test_streams_folder_environment(self) -> None:
         execution = self.start("sh", "-c", "echo $A; pwd; echo err >&2; cat", env={"A": "b", "PATH": os.environ["PATH"]})
-        self.assertEqual(execution.wait(10), 0)  # type: ignore[attr-defined]
+        self.assertEqual(execution.wait(support.PATIENCE), 0)  # type: ignore[attr-defined]
         self.assertEqual(self.said(), f"b\n{os.path.realpath(self.room)}\nerr\n")  # type: ignore[attr-defined]
 
     def started(self) -> None:
-        for _ in range(500):
-            if "ready" in self.said():
-                return
-            time.sleep(0.01)
-        self.fail("it isn't ready")  # type: ignore[attr-defined]
+        support.until(lambda: "ready" in self.said())
 
     def until_alive(self, mark: str, count: int) -> None:
-        for _ in range(1000):
-            if alive(mark) == count:
-                return
-            time.sleep(0.01)
-        self.fail(f"{alive(mark)} processes are {mark}")  # type: ignore[attr-defined]
+        support.until(lambda: alive(mark) == count, f"there aren't {count} processes {mark}")
 
     def test_signals(self) -> None:
         execution = self.start("sh", "-c", "trap 'echo heard; exit 5' TERM; echo ready; while :; do sleep 0.05; done")
         self.started()
         execution.signal(signal.SIGSTOP)  # not one that goes through
         execution.signal(signal.SIGTERM)
-        self.assertEqual(execution.wait(10), 5)  # type: ignore[attr-defined]
+        self.assertEqual(execution.wait(support.PATIENCE), 5)  # type: ignore[attr-defined]
         self.assertIn("heard", self.said())  # type: ignore[attr-defined]
 
     def test_early_signal(self) -> None:
@@ -96,31 +89,31 @@ class Runs:
         finally:
             signal.signal(signal.SIGINT, before)
         execution.signal(signal.SIGINT)
-        self.assertEqual(execution.wait(10), 130)  # type: ignore[attr-defined]
+        self.assertEqual(execution.wait(support.PATIENCE), 130)  # type: ignore[attr-defined]
 
     def test_leftovers(self) -> None:
-        self.assertEqual(self.status("sh", "-c", "sleep 41.6 & setsid sleep 41.6 & exit 0"), 0)  # type: ignore[attr-defined]
-        self.assertEqual(alive("sleep 41.6"), 0)  # type: ignore[attr-defined]
+        self.assertEqual(self.status("sh", "-c", "sleep 741.6 & setsid sleep 741.6 & exit 0"), 0)  # type: ignore[attr-defined]
+        self.assertEqual(alive("sleep 741.6"), 0)  # type: ignore[attr-defined]
 
     def test_ended(self) -> None:
-        mark = f"sleep 41.7{os.getpid()}"
+        mark = f"sleep 741.7{os.getpid()}"
         execution = self.start("sh", "-c", f"trap '' TERM; setsid {mark} & {mark}")
         self.until_alive(mark, 2)
         begun = time.monotonic()
         self.executions.all_over()
-        self.assertLess(time.monotonic() - begun, 20)  # type: ignore[attr-defined]  # what outlives it holds the lock until it ends by itself
+        self.assertLess(time.monotonic() - begun, 500)  # type: ignore[attr-defined]  # what outlives it holds the lock until it ends by itself
         self.assertEqual(alive(mark), 0)  # type: ignore[attr-defined]
         self.assertEqual((execution.wait(1), execution.was_ended), (137, True))  # type: ignore[attr-defined]
 
     def test_agent_killed(self) -> None:
         """The next life's lock is free once nothing of the last agent's executions is left."""
-        mark = f"sleep 41.8{os.getpid()}"
+        mark = f"sleep 741.8{os.getpid()}"
         text = (
             f"import sys; sys.path.insert(0, {support.TOP!r})\n"
             "from agent.executions import Executions\n"
             f"e = Executions({self.room!r}); e.has_namespaces = {self.namespace}\n"  # type: ignore[attr-defined]
             f"x = e.start(['sh', '-c', 'setsid {mark} & {mark}'], '/', {{'PATH': '/bin:/usr/bin'}}, [0, 1, 2], [])\n"
-            "x.wait(30)\n"
+            "x.wait(700)\n"
         )
         agent = subprocess.Popen([sys.executable, "-c", text], stdout=self.out, stdin=subprocess.DEVNULL)
         self.until_alive(mark, 2)
@@ -131,7 +124,7 @@ class Runs:
         agent.wait()
         begun = time.monotonic()
         self.executions.all_over()
-        self.assertLess(time.monotonic() - begun, 20)  # type: ignore[attr-defined]
+        self.assertLess(time.monotonic() - begun, 500)  # type: ignore[attr-defined]
         self.assertEqual(alive(mark), 0)  # type: ignore[attr-defined]
 
 
@@ -155,7 +148,7 @@ class InNamespace(Runs, support.RoomTest):
                 ["sh", "-c", f"echo {text} > {self.path('to/f')}"], "/", {"PATH": "/bin"}, [0, self.out, self.out],
                 [(self.path("from"), self.path("to"), writable)],
             )
-            self.assertEqual(execution.wait(10) == 0, writable)
+            self.assertEqual(execution.wait(support.PATIENCE) == 0, writable)
         self.assertEqual((self.read("from/f"), os.listdir(self.path("to"))), ("x\n", []))
 
 

@@ -1,6 +1,7 @@
 """Whole farms: commands as people call them, over the stand-in for the filters or the program that FARMCTL names."""
 from __future__ import annotations
 
+import contextlib
 import json
 import os
 import random
@@ -9,8 +10,9 @@ import signal
 import subprocess
 import sys
 import threading
-import time
 import unittest
+from typing import Any
+from unittest import mock
 
 from agent.caller import Patience
 from agent.coordinator import CoordinatorAgent
@@ -20,6 +22,7 @@ from agent.hints import make_key
 from agent.node import NodeAgent, Setup
 from agent.redis_wire import Redis
 from agent.runs import Job, Run
+from agent.service import Connection, Service
 from agent.store import FolderStore
 from agent.transport import LocalTransport
 from agent.words import Want
@@ -67,6 +70,34 @@ class Alone(support.FarmTest):
         self.farm("run", "--folder", "locked:c=w", "--", "sh", "-c", "ls w > seen")
         self.assertEqual(self.read("seen"), "")
 
+    def test_starting(self) -> None:
+        """A farm whose nodes are about to stand is waited for. A log that has become long is put aside."""
+        os.makedirs(self.home)
+        asked = list[Any]()
+
+        def answers(what: dict[str, Any], _link: Connection) -> int:
+            asked.append(what["command"])
+            return 7
+
+        def serve(name: str) -> None:
+            service = Service(f"{self.home}/{name}.sock", answers)
+            self.addCleanup(service.close)
+            threading.Thread(target=service.serve, daemon=True).start()
+
+        serve("coordinator")
+        later = threading.Timer(0.2, serve, ["node2"])
+        later.start()
+        self.asked("run", "--", "true", status=7)
+        self.assertEqual(asked, [["true"]])
+        self.assertIn("no node 1 runs", self.asked("run", "--node", "1", "--", "true", status=70))
+        later.join()
+
+    def test_long_log(self) -> None:
+        self.write("home/farm.log", "x" * (8 << 20) + "x")
+        self.farm("run", "--", "true")
+        self.assertEqual(os.path.getsize(f"{self.home}/farm.log.old"), (8 << 20) + 1)
+        self.assertLess(os.path.getsize(f"{self.home}/farm.log"), 8 << 20)
+
     def lost(self) -> None:
         """What can't be shown whole isn't shown."""
         os.rename(f"{self.home}/contents/chunks", self.path("chunks"))
@@ -77,22 +108,19 @@ class Alone(support.FarmTest):
         os.rename(self.path("chunks"), f"{self.home}/contents/chunks")
 
     def test_left_early(self) -> None:
-        """A command whose caller goes while its folder is filled doesn't begin. One that waits for a path is told."""
-        self.write("bin/casync", f'#!/bin/sh\n[ $1 = make ] || {{ touch {self.path("filling")}; until [ -e {self.path("go")} ]; do sleep 0.05; done; }}\nexec {shutil.which("casync")} "$@"\n')
+        """A command whose caller goes while its folder is filled doesn't begin, and isn't waited for. One that waits for a path is told."""
+        self.write("bin/casync", f'#!/bin/sh\n[ $1 = make ] || {{ touch {self.path("filling")}; exec sleep 300; }}\nexec {shutil.which("casync")} "$@"\n')
         os.chmod(self.path("bin/casync"), 0o755)
         self.env["PATH"] = f"{self.path('bin')}:{self.env['PATH']}"
         self.farm("run", "--folder", "locked:c=w", "--", "touch", "w/f")
         run = self.begin("run", "--folder", "locked:c=v", "--", "touch", "ran")
         self.wait_for(self.path("filling"))
         other = self.begin("run", "--folder", "locked:d=v/sub", "--", "true")
-        assert other.stderr
-        self.assertIn(f"waiting for {os.path.realpath(self.room)}/v/sub: another command", other.stderr.readline())
+        self.hear(other, f"waiting for {os.path.realpath(self.room)}/v/sub: another command")
         run.send_signal(signal.SIGINT)
-        time.sleep(1.0)  # it is heard by then
-        self.write("go", "")
-        self.assertIn("nobody waits", run.communicate(timeout=30)[1])
+        self.assertIn("nobody waits", run.communicate(timeout=support.PATIENCE)[1])
         self.assertEqual((run.returncode, os.path.exists(self.path("ran"))), (75, False))
-        other.communicate(timeout=30)
+        other.communicate(timeout=support.PATIENCE)
         self.assertEqual(other.returncode, 0)
 
     def test_wrong_words(self) -> None:
@@ -100,10 +128,15 @@ class Alone(support.FarmTest):
                 (["status"], 70, "farm up starts one"), (["withdraw", "x"], 64, "invalid int"), (["coordinator", "--broker", "10.0.0.1"], 64, "redis://HOST"),
                 (["run", "--home", self.path("my home"), "--", "true"], 64, "has a space"),
                 (["node", "9", "--broker", "redis://127.0.0.1:1"], 64, "no node 9 of 3"), (["gc", "--keep", "0"], 64, "at least 1"),
+                (["run", "--wait", "nan", "--", "true"], 64, "invalid seconds value: 'nan'"), (["run", "--wait", "-1", "--", "true"], 64, "'-1'"),
                 (["run", "--home", self.path("x" * 90), "--", "true"], 64, "too long"), (["up", "--home", self.path("\udcff")], 64, "isn't UTF-8"),
                 (["status", "--home", self.path("x" * 90)], 70, "path too long")]
         for words, status, said in rows:
             self.assertIn(said, self.asked(*words, status=status))
+        gone = 'mkdir gone && cd gone && rmdir ../gone && exec "$@"'
+        for call in (["run", "--", "true"], ["build", self.room]):
+            done = subprocess.run(["sh", "-c", gone, "sh", *FARM, *call], cwd=self.room, env=self.env, capture_output=True, text=True)
+            self.assertEqual((done.returncode, done.stderr), (70, "farm: the folder that this was called in is there no more\n"))
         for verb in ("", "run", "build", "up", "coordinator", "node", "status", "log", "get", "withdraw", "retire", "prune", "gc", "web"):
             said = self.asked("--help") if not verb else self.asked(verb, "--help")
             self.assertIn("example: farm" if verb else "statuses:", " ".join(said.split()))
@@ -118,6 +151,20 @@ class Alone(support.FarmTest):
         said = self.asked("run", "--folder", "locked:c=w", "--", "/bin/touch", self.path("ran"), status=69)
         self.assertIn("apt-get install casync", said)
         self.assertFalse(os.path.exists(self.path("ran")))
+
+    def test_early_signal(self) -> None:
+        """Ctrl-C while the program is only being read is a signal that came before the lease, and nothing else."""
+        text = (
+            "import os, runpy, signal, sys\n"
+            "signal.signal(signal.SIGINT, signal.default_int_handler)\n"
+            "class Finder:\n"
+            "    def find_spec(self, name, *_):\n"
+            "        if name == 'agent.cli': os.kill(os.getpid(), signal.SIGINT)\n"
+            "sys.meta_path.insert(0, Finder())\n"
+            f"runpy.run_path({FARM[-1]!r}, run_name='__main__')\n"
+        )
+        done = subprocess.run([sys.executable, "-c", text, "run", "--", "true"], capture_output=True, text=True, timeout=support.PATIENCE)
+        self.assertEqual((done.returncode, done.stderr), (75, ""))
 
     def test_missing_program(self) -> None:
         for program, said in (("/nowhere/farmctl", "isn't there"), ("/bin/false", "doesn't start as the coordinator")):
@@ -138,7 +185,7 @@ class Nodes(support.FarmTest):
         return self.begin("run", "--node", str(node), *words, "--folder", f"{folder}=w{node}", "--", "sh", "-c", command)
 
     def ended(self, process: subprocess.Popen[str], status: int) -> str:
-        said = process.communicate(timeout=30)
+        said = process.communicate(timeout=support.PATIENCE)
         self.assertEqual(process.returncode, status, said)
         return "".join(said)
 
@@ -161,13 +208,13 @@ class Nodes(support.FarmTest):
         self.assertIn("weren't granted within 0.2", self.ended(self.run_on(2, "true", "--wait", "0.2"), 75))
         two = self.run_on(2, "cat w2/f")
         self.assertIn("node 1 has locked:c for", self.asked("status"))
-        assert two.stderr
-        self.assertRegex(two.stderr.readline(), "waiting for locked:c: node 1 has locked:c for .* s, ticket [0-9]+")
+        self.hear(two, "waiting for locked:c: node 1 has locked:c for .* s, ticket [0-9]+")
         three = self.run_on(2, "true")
-        assert three.stderr
-        self.assertRegex(three.stderr.readline(), "waiting for locked:c")
+        self.hear(three, "waiting for locked:c")
         three.send_signal(signal.SIGTERM)
         self.ended(three, 75)
+        support.until(lambda: sorted(each["left"] for each in json.loads(self.asked("status", "--json"))["waiting"]) == [False, True, True])
+        self.assertIn("node 2 waits for locked:c, and nobody there wants it any more\n", self.asked("status"))
         self.write("go", "")
         self.ended(one, 0)
         self.assertIn("one\n", self.ended(two, 0))
@@ -192,7 +239,7 @@ class Nodes(support.FarmTest):
         run.send_signal(signal.SIGTERM)
         self.assertIn("heard", self.ended(run, 9))
         os.unlink(self.path("in"))
-        stopped = self.run_on(1, "touch in; sleep 30", "--on-lost", "stop")
+        stopped = self.run_on(1, "touch in; sleep 730", "--on-lost", "stop")
         self.wait_for(self.path("in"))
         self.asked("withdraw", self.ticket())
         self.assertIn("has ended", self.ended(stopped, 143))
@@ -200,23 +247,23 @@ class Nodes(support.FarmTest):
         self.assertEqual(self.read("last/f"), "y\ny\n")
 
     def test_killed(self) -> None:
-        run = self.run_on(1, "touch in; sleep 43.1")
+        run = self.run_on(1, "touch in; sleep 743.1")
         self.wait_for(self.path("in"))
         self.kill_filter("node")
         self.assertIn("isn't known to count", self.ended(run, 75))
         os.unlink(self.path("in"))
-        run = self.run_on(1, "touch in; sleep 43.1")
+        run = self.run_on(1, "touch in; sleep 743.1")
         self.wait_for(self.path("in"))
         run.kill()
         run.communicate()
         self.kill_filter("coordinator")
         self.ended(self.run_on(2, "rm -f in"), 0)
-        run = self.run_on(1, "touch in; sleep 43.1", "--on-lost", "stop")
+        run = self.run_on(1, "touch in; sleep 743.1", "--on-lost", "stop")
         self.wait_for(self.path("in"))
         self.kill_filter("coordinator")
         self.assertIn("has ended", self.ended(run, 143))
         os.unlink(self.path("in"))
-        run = self.run_on(1, "touch in; sleep 43.2")
+        run = self.run_on(1, "touch in; sleep 743.2")
         self.wait_for(self.path("in"))
         self.agent.kill()
         self.agent.wait()
@@ -226,16 +273,16 @@ class Nodes(support.FarmTest):
         self.ended(self.run_on(1, "echo x > w1/f"), 0)
 
     def kill_filter(self, role: str) -> None:
-        with open(f"/proc/{self.agent.pid}/task/{self.agent.pid}/children") as file:
-            children = file.read().split()
+        gone = contextlib.suppress(FileNotFoundError, ProcessLookupError)  # threads and processes end meanwhile
+        children = set[str]()
         for task in os.listdir(f"/proc/{self.agent.pid}/task"):
-            with open(f"/proc/{self.agent.pid}/task/{task}/children") as file:
-                children += file.read().split()
-        for pid in set(children):
-            with open(f"/proc/{pid}/cmdline", "rb") as shown:
+            with gone, open(f"/proc/{self.agent.pid}/task/{task}/children") as file:
+                children.update(file.read().split())
+        for pid in children:
+            with gone, open(f"/proc/{pid}/cmdline", "rb") as shown:
                 words = shown.read().split(b"\0")
-            if role.encode() in words and (role != "node" or b"1" in words):
-                os.kill(int(pid), signal.SIGKILL)
+                if role.encode() in words and (role != "node" or b"1" in words):
+                    os.kill(int(pid), signal.SIGKILL)
 
     def shared(self) -> None:
         first = self.run_on(1, "echo a >> w1/f; touch in; until [ -e go ]; do sleep 0.05; done", folder="shared:s")
@@ -243,8 +290,7 @@ class Nodes(support.FarmTest):
         second = self.farm("run", "--node", "1", "--folder", "shared:s=w3", "--", "sh", "-c", "echo b >> w3/f")
         self.assertIn("in use by others here", second.stderr)
         other = self.run_on(2, "cat w2/f", folder="shared:s")  # it waits until node 1 has closed the folder
-        assert other.stderr
-        self.assertIn("waiting for shared:s: node 1 has shared:s", other.stderr.readline())
+        self.hear(other, "waiting for shared:s: node 1 has shared:s")
         self.write("go", "")
         self.assertIn("committed", self.ended(first, 0))
         self.assertIn("a\nb\n", self.ended(other, 0))
@@ -284,6 +330,7 @@ class Apart(support.FarmTest):
                 self.run_on(1 + number % 2, f"head -c 200000 /dev/urandom > w{1 + number % 2}/f{number}")
             self.assertRegex(self.asked("gc", "--keep", "1", "--grace", "-1"), "Redis forgot 2 indexes and [0-9]+ chunks")
             self.assertRegex(self.asked("gc", "--home", self.path("n1"), "--grace", "-1"), "^forgot 2 contents of nodes, 2 indexes and [1-9][0-9]* chunks")
+            self.spoilt()
             server = Redis(url)
             for key in server.call("KEYS", "*:chunk:*"):
                 server.call("SET", key, "spoilt")
@@ -292,6 +339,15 @@ class Apart(support.FarmTest):
             self.assertIn("the other nodes are asked for them", said)
             self.alone(url)
             self.end()
+
+    def spoilt(self) -> None:
+        """What is spoilt in a node's own folder comes from the store."""
+        chunks = [f"{at}/{name}" for at, _, names in os.walk(self.path("n1/contents/chunks")) for name in names]
+        for chunk in chunks:
+            with open(chunk, "rb+") as file:
+                file.truncate(100)
+        shutil.rmtree(self.path("w1"))
+        self.assertIn("f0 f1 f2", self.run_on(1, "echo $(ls w1)"))
 
     def alone(self, url: str) -> None:
         """The home of a node whose agent is gone serves no farm of its own."""
@@ -307,7 +363,7 @@ class Streams(support.FarmTest):
 
     def shell(self, text: str, *words: str) -> subprocess.CompletedProcess[str]:
         """A shell's command, in which `"$@"` is the farm with these words."""
-        return subprocess.run(["sh", "-c", text, "sh", *FARM, *words], env=self.env, cwd=self.room, input="exit 8", capture_output=True, text=True, timeout=30)
+        return subprocess.run(["sh", "-c", text, "sh", *FARM, *words], env=self.env, cwd=self.room, input="exit 8", capture_output=True, text=True, timeout=support.PATIENCE)
 
     def start(self, text: str) -> None:
         self.ups.append(subprocess.Popen(["sh", "-c", f'exec "$@" {text}', "sh", *FARM, "up", "--nodes", "1", "--verbose"], env=self.env, text=True))
@@ -342,12 +398,11 @@ class Streams(support.FarmTest):
         self.wait_for(self.path("in"))
         runs = [self.begin("run", "--folder", f"locked:c=w{number}", "--", "true") for number in range(20)]
         for run in runs:
-            assert run.stderr
-            self.assertIn("waiting for locked:c", run.stderr.readline())
+            self.hear(run, "waiting for locked:c")
         self.write("go", "")
-        self.assertEqual(held.communicate(timeout=30)[0], "60\n")
+        self.assertEqual(held.communicate(timeout=support.PATIENCE)[0], "60\n")
         for run in [held, *runs]:
-            run.communicate(timeout=30)
+            run.communicate(timeout=support.PATIENCE)
             self.assertEqual(run.returncode, 0)
 
     def test_kept_off(self) -> None:
@@ -355,13 +410,14 @@ class Streams(support.FarmTest):
         before = signal.signal(signal.SIGHUP, signal.SIG_IGN)
         try:
             agent = self.up("up", "--nodes", "1")
-            run = self.begin("run", "--", "sh", "-c", "touch in; sleep 1; echo ended")
+            run = self.begin("run", "--", "sh", "-c", "touch in; until [ -e go ]; do sleep 0.05; done; echo ended")
         finally:
             signal.signal(signal.SIGHUP, before)
         self.wait_for(self.path("in"))
         for process in (run, agent):
             process.send_signal(signal.SIGHUP)
-        self.assertEqual(run.communicate(timeout=30)[0], "ended\n")
+        self.write("go", "")
+        self.assertEqual(run.communicate(timeout=support.PATIENCE)[0], "ended\n")
         self.assertEqual((run.returncode, agent.poll()), (0, None))
 
 
@@ -386,10 +442,9 @@ class StoreFault(support.RoomTest):
         with self.assertRaises(LifeOver):
             agent.call("resend", 1)
         self.assertEqual((agent.talk.epoch, agent.call("resend", 2).note), (2, "resent"))
-        begun = time.monotonic()
-        with self.assertRaises(WaitOver):
-            agent.wait(2, Patience(None, 2.3), lambda: False)  # what it sends then it would send again after 2.4 more
-        self.assertLess(time.monotonic() - begun, 3.5)
+        with self.assertRaises(WaitOver), mock.patch.object(agent, "call", wraps=agent.call) as call:
+            agent.wait(2, Patience(None, 2.3), lambda: False)
+        self.assertLessEqual(call.call_count, 3)  # after 0.3, 0.9 and 2.1 seconds, and not after 4.5
 
 
 class Lossy(LocalTransport):
@@ -430,7 +485,7 @@ class BadTransport(support.RoomTest):
             path = self.path(f"w{agent.node}")
             for _ in range(agent.node):
                 command = ["sh", "-c", f"echo {agent.node} >> {path}/f; wc -l < {path}/f"]
-                job = Job(command, self.room, {"PATH": os.environ["PATH"]}, [Want("locked:c", path)], wait=15, fenced_status=75, lost_status=75)
+                job = Job(command, self.room, {"PATH": os.environ["PATH"]}, [Want("locked:c", path)], wait=support.PATIENCE, fenced_status=75, lost_status=75)
                 caller = support.Heard()
                 with open(self.path("out"), "a") as out:
                     caller.streams = [0, out.fileno(), out.fileno()]

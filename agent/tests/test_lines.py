@@ -155,12 +155,8 @@ class Sockets(support.RoomTest):
             socket.send_fds(link, [b"f"], [0, 1, 2])
             link.sendall(b"{}\n")
             link.recv(1, socket.MSG_PEEK)
-        self.assertTrue(gone.wait(10))
-        for _ in range(100):
-            if service.used > begun:
-                break
-            time.sleep(0.05)
-        self.assertGreater(service.used, begun)
+        self.assertTrue(gone.wait(support.PATIENCE))
+        support.until(lambda: service.used > begun)
 
 
 if __name__ == "__main__":

@@ -7,6 +7,7 @@ import subprocess
 import threading
 import unittest
 import urllib.parse
+from unittest import mock
 
 from agent import trees
 from agent.chunks import chunk_names
@@ -15,7 +16,7 @@ from agent.hints import Hints, make_key
 from agent.needs import Needs, parts
 from agent.redis_store import RedisStore
 from agent.redis_transport import RedisTransport
-from agent.redis_wire import Redis, RedisFault
+from agent.redis_wire import Redis, RedisAway, RedisFault
 from agent.store import ChunksMissing
 from agent.transport import LocalTransport, Transport, address_of
 
@@ -28,7 +29,14 @@ class Carries(support.RoomTest):
         transport.send("node.1", "a b")
         transport.send("node.2", "c")
         transport.send("node.1", "d")
-        self.assertEqual([transport.receive("node.1", 1.0), transport.receive("node.1", 1.0)], ["a b", "d"])
+        lines = list[str]()
+
+        def are_here() -> bool:
+            lines.extend(filter(None, [transport.receive("node.1", 1.0)]))
+            return len(lines) > 1
+
+        support.until(are_here)
+        self.assertEqual(lines, ["a b", "d"])
         self.assertIsNone(transport.receive("node.1", 0.05))
 
 
@@ -138,6 +146,33 @@ class OverRedis(Carries):
             for server in back:
                 server.terminate()
                 server.wait()
+
+    def test_away_late(self) -> None:
+        """A server that goes away late in a long sending is waited for as well. One that never gets further isn't, for ever."""
+        now, calls, faults = [0.0], list[str](), dict[int, int]()
+
+        def call(commands: list[list[str]]) -> list[int]:
+            now[0] += 50
+            calls.append(commands[0][3])
+            if faults.get(at := int(calls[-1][-1]), 0):
+                faults[at] -= 1
+                raise RedisAway("away")
+            return [1] * len(commands)
+
+        store = RedisStore.__new__(RedisStore)
+        store.server, store.farm = mock.Mock(calls=call), "t"
+        module = "agent.redis_store"
+        with (
+            mock.patch(f"{module}.time.monotonic", lambda: now[0]), mock.patch(f"{module}.time.sleep"), mock.patch(f"{module}.AT_ONCE", 1),
+            mock.patch(f"{module}.chunk_names", lambda index: list("01234567")),
+        ):
+            faults[6] = 1
+            store._send("8", b"", False)
+            self.assertEqual("".join(name[-1] for name in calls), "0123456012345678")
+            faults[6] = 99
+            with self.assertRaisesRegex(FarmFault, "took no contents: away"):
+                store._send("8", b"", False)
+            self.assertLess(len(calls), 50)
 
     @unittest.skipUnless(support.has("casync"), support.needs("casync"))
     def test_forget(self) -> None:

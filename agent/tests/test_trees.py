@@ -1,13 +1,13 @@
 """Folders as contents, and back; what a store forgets."""
 from __future__ import annotations
 
+import json
 import mmap
 import os
 import shutil
 import subprocess
 import sys
 import tempfile
-import time
 import unittest
 from typing import Callable
 from unittest import mock
@@ -140,11 +140,7 @@ class Trees(support.RoomTest):
             trees.keep(self.store, self.path("tree"))
         self.assertIsNone(signature(self.path("tree")))
         Trash(self.path("home")).take(self.path("tree"))
-        for _ in range(500):
-            if not os.listdir(self.path("home/trash")):
-                return
-            time.sleep(0.02)
-        self.fail("it is still in the trash")
+        support.until(lambda: not os.listdir(self.path("home/trash")), "it is still in the trash")
 
     def test_hollow(self) -> None:
         """What a power failure left of chunks that nobody had synced is made anew."""
@@ -158,6 +154,28 @@ class Trees(support.RoomTest):
         self.assertEqual(trees.keep(self.store, tree)[0], index)
         trees.extract(self.store, index, self.path("out"))
         self.assertEqual(told(self.path("out")), told(tree))
+
+    def test_cut_short(self) -> None:
+        """So is what it left of chunks that were half written. What is spoilt otherwise is found where it is looked for."""
+        tree = self.tree()
+        index = trees.make(self.store, tree)
+        paths = [chunk_path(self.store.chunks, name) for name in chunk_names(index)]
+        for rest in (1, 3, 4, 20, -1):
+            for path in paths:
+                with open(path, "rb+") as file:
+                    file.truncate(rest if rest > 0 else os.path.getsize(path) + rest)
+            self.assertEqual(trees.keep(self.store, tree)[0], index, rest)
+            self.assertEqual(self.store.spoilt(index), [])
+        with open(paths[0], "rb+") as file:
+            file.seek(10)
+            file.write(b"spoilt")
+        with self.assertRaises(trees.NotMade):
+            trees.extract(self.store, index, self.path("out"))
+        with self.assertRaisesRegex(FarmFault, "1 chunks of a version aren't in"):
+            trees.extract_whole(self.store, index, self.path("out2"))
+        self.assertFalse(os.path.exists(self.path("out2")))
+        trees.keep(self.store, tree)
+        self.assertFalse(self.store.mend(index))
 
     def test_forget_damaged(self) -> None:
         """Chunks of a content that is needed stay, though its index can't be read: a filter may have it."""
@@ -283,6 +301,10 @@ class Paths(support.RoomTest):
             places.clear(self.path("work/mine/f"))
         os.makedirs(self.path("work/new"))
         places.clear(self.path("work/new"))
+        os.symlink("work", self.path("link"))
+        places.clear(self.path("workshop"))
+        places.forget_within(self.path("link"))
+        self.assertEqual([json.loads(self.read(f"home/places/{name}"))[0] for name in os.listdir(places.home)], [self.path("workshop")])
 
     @unittest.skipUnless(support.is_root, "only root can mount")
     def test_mounted(self) -> None:
@@ -328,20 +350,39 @@ class Paths(support.RoomTest):
             f"import sys, time; sys.path.insert(0, {support.TOP!r})\n"
             "from agent.places import Places\n"
             f"with Places({self.path('home')!r}).held({self.path('w')!r}):\n"
-            "    print('held', flush=True); time.sleep(60)\n"
+            "    print('held', flush=True); time.sleep(600)\n"
         )
         other = subprocess.Popen([sys.executable, "-c", text], stdout=subprocess.PIPE, text=True)
         assert other.stdout
         other.stdout.readline()
         copied = Places(self.path("copy"))
-        self.assertFalse(self.is_free(copied, self.path("w")))
+        deep = "w/" + "/".join("abcdefghijkl")
+        names = ["w", deep, f"{deep}/x", "wx", "wx/w"]
+        self.assertEqual([self.is_free(copied, self.path(name)) for name in names], [False, False, False, True, True])
+        self.assertEqual(os.listdir(self.path("w")), [])  # nothing is made within what another one has
         other.kill()
         other.communicate()
         self.assertTrue(self.is_free(copied, self.path("w")))
 
+    def test_held_within(self) -> None:
+        """A path is held also against agents of other homes that want what is around it, however deep it lies."""
+        text = (
+            f"import sys, time; sys.path.insert(0, {support.TOP!r})\n"
+            "from agent.places import Places\n"
+            f"with Places({self.path('home')!r}).held({self.path('w/' + '/'.join('abcdefghijklmnopqrstuvwxyz'))!r}):\n"
+            "    print('held', flush=True); time.sleep(600)\n"
+        )
+        other = subprocess.Popen([sys.executable, "-c", text], stdout=subprocess.PIPE, text=True)
+        assert other.stdout
+        other.stdout.readline()
+        free = [self.is_free(Places(self.path("home2")), self.path(name)) for name in ("w", "w/a", "w/a/b/c/d/e/f/g/h/i/j/k", "w/b")]
+        other.kill()
+        other.communicate()
+        self.assertEqual(free, [False, False, False, True])
+
     def test_filled_by_another(self) -> None:
         """What a killed agent fills no command has before casync has ended."""
-        self.write("bin/casync", f"#!/bin/sh\necho $$ > {self.path('pid')}.new; mv {self.path('pid')}.new {self.path('pid')}; exec sleep 60\n")
+        self.write("bin/casync", f"#!/bin/sh\necho $$ > {self.path('pid')}.new; mv {self.path('pid')}.new {self.path('pid')}; exec sleep 600\n")
         os.chmod(self.path("bin/casync"), 0o755)
         text = (
             f"import sys; sys.path.insert(0, {support.TOP!r})\n"
@@ -352,10 +393,7 @@ class Paths(support.RoomTest):
             f"    places.fill(mock.Mock(), b'index', {self.path('w')!r})\n"
         )
         agent = subprocess.Popen([sys.executable, "-c", text], env=os.environ | {"PATH": f"{self.path('bin')}:{os.environ['PATH']}"})
-        for _ in range(500):
-            if os.path.exists(self.path("pid")):
-                break
-            time.sleep(0.02)
+        support.until(lambda: os.path.exists(self.path("pid")))
         agent.kill()
         agent.wait()
         places = Places(self.path("home"))
@@ -392,6 +430,25 @@ class Paths(support.RoomTest):
         places.clear(path)
         self.assertEqual((os.listdir(path), self.read("mine/f")), ([], "x"))
 
+    @unittest.skipUnless(support.has("casync"), support.needs("casync"))
+    def test_own_disk(self) -> None:
+        """A node makes nothing where the system has files that aren't kept: what it leaves there when it is killed nobody removes."""
+        store, places, path = FolderStore(self.path("store")), Places(self.path("home")), self.path("w")
+        with mock.patch("tempfile.tempdir", "/nowhere"):
+            places.clear(path)
+            self.write("w/f", "x")
+            index, _ = places.keep(store, path)
+            shutil.rmtree(path)
+            places.fill(store, index, path)
+        self.assertEqual(self.read("w/f"), "x")
+
+    @unittest.skipUnless(os.path.exists("/dev/full"), "there is no /dev/full")
+    def test_full(self) -> None:
+        """What a full disk refuses is told with the file's name."""
+        with mock.patch("os.fdopen", lambda handle, how: open("/dev/full", how)), self.assertRaisesRegex(OSError, f"No space.*{self.room}/f"):
+            put_file(self.path("f"), b"x")
+        self.assertEqual(os.listdir(self.room), [])
+
     def test_made_anew(self) -> None:
         places = Places(self.path("home"))
         places.clear(self.path("w"))
@@ -425,7 +482,7 @@ class Paths(support.RoomTest):
             f"import sys, time; sys.path.insert(0, {support.TOP!r})\n"
             "from agent.places import Places\n"
             f"with Places({home!r}).rooms.room() as room:\n"
-            "    print(room, flush=True); time.sleep(60)\n"
+            "    print(room, flush=True); time.sleep(600)\n"
         )
         other = subprocess.Popen([sys.executable, "-c", text], stdout=subprocess.PIPE, text=True)
         assert other.stdout
@@ -435,8 +492,9 @@ class Paths(support.RoomTest):
         self.assertFalse(os.path.exists(own))
         other.kill()
         other.communicate()
-        with Places(home).rooms.room():
-            self.assertFalse(os.path.exists(left))
+        self.write("home/places/.new-x", "half written")
+        Places(home).sweep()
+        self.assertFalse(os.path.exists(left) or os.path.exists(self.path("home/places/.new-x")))
 
     def test_names(self) -> None:
         os.makedirs(self.path("real"))

@@ -25,7 +25,7 @@ def told(nodes: int, leases: int, folder: str = "locked:c") -> dict[str, Any]:
         "now": now, "gone": [2], "retired": [], "lives": {str(n): 1_700_000_000 + n for n in range(1, nodes + 1)},
         "heard": {str(n): now - n for n in range(1, nodes + 1)},
         "leases": [{"ticket": t, "node": t % nodes + 1, "life": 1, "ask": t, "kind": "plain", "slots": [f"{folder}{t}"], "since": now - t} for t in range(1, leases + 1)],
-        "waiting": [{"kind": "acquire", "node": 1, "life": 1, "ask": 5, "folders": [folder]}],
+        "waiting": [{"kind": "acquire", "node": 1, "life": 1, "ask": 5, "folders": [folder], "left": True}],
         "folders": [{"slot": f"{folder}{t}", "version": 3, "ticket": t, "digest": "0" * 64, "versions": [
             {"version": v, "ticket": v, "digest": "0" * 64, "size": 1234 ** v} for v in (3, 2, 1)]} for t in range(1, leases + 1)],
     }
@@ -49,7 +49,7 @@ class Served(support.RoomTest):
         return server.server_port
 
     def get(self, port: int, path: str, method: str = "GET", **heads: str) -> tuple[int, bytes, str]:
-        link = http.client.HTTPConnection("127.0.0.1", port, timeout=10)
+        link = http.client.HTTPConnection("127.0.0.1", port, timeout=support.PATIENCE)
         link.request(method, path, headers=heads)
         answer = link.getresponse()
         data = answer.read()
@@ -87,6 +87,7 @@ class InBrowser(Served):
         self.assertEqual(browser.value("document.querySelector('#leases td.long').textContent"), f"{MARKED}1")
         self.assertEqual(browser.value("[document.title, document.scripts.length, document.images.length]"), ["farm", 1, 0])
         self.assertIn("retired", browser.value("document.querySelector('#nodes').textContent"))
+        self.assertIn("lease that nobody wants any more", browser.value("document.querySelector('#waiting').textContent"))
 
     def test_many(self) -> None:
         browser = self.browser()
@@ -128,7 +129,7 @@ class OfAFarm(support.FarmTest):
         self.addCleanup(browser.close)
         browser.open(url)
         self.assertTrue(browser.wait("document.querySelector('#leases').textContent.includes('nobody has')"))
-        held = self.begin("run", "--node", "1", "--on-lost", "stop", "--folder", "locked:c=w", "--", "sh", "-c", "touch in; sleep 60")
+        held = self.begin("run", "--node", "1", "--on-lost", "stop", "--folder", "locked:c=w", "--", "sh", "-c", "touch in; sleep 760")
         self.wait_for(self.path("in"))
         waits = self.begin("run", "--node", "2", "--folder", "locked:c=v", "--", "true")
         self.assertTrue(browser.wait("document.querySelector('#leases').textContent.includes('locked:c') && document.querySelector('#waiting').textContent.includes('locked:c')"))
@@ -136,8 +137,8 @@ class OfAFarm(support.FarmTest):
             browser.picture(os.environ["FARM_PICTURE"])
         ticket = json.loads(self.asked("status", "--json"))["leases"][0]["ticket"]
         self.asked("withdraw", str(ticket))
-        held.communicate(timeout=30)
-        waits.communicate(timeout=30)
+        held.communicate(timeout=support.PATIENCE)
+        waits.communicate(timeout=support.PATIENCE)
         self.assertTrue(browser.wait("document.querySelector('#leases').textContent.includes('nobody has')"))
         self.assertRegex(browser.value("document.querySelector('#folders').textContent"), "locked:c2[0-9]+[0-9.]+ kB1: ")
         self.end()

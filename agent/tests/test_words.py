@@ -18,7 +18,7 @@ class Words(unittest.TestCase):
             self.assertEqual(is_folder(text), wanted, text)
 
     def test_spelling(self) -> None:
-        rows = [("../../etc", "locked:../../etc"), ("a#b%c@d é", "locked:a%23b%25c%40d%20%C3%A9"), ("x=y", "locked:x=y"), ("\n", "locked:%0A")]
+        rows = [("../../etc", "locked:../../etc"), ("a#b%c@d é", "locked:a%23b%25c%40d%20%C3%A9"), ("x=y", "locked:x=y"), ("\n", "locked:%0A"), ("\udcff", "locked:%FF")]
         for identifier, wanted in rows:
             self.assertEqual(folder_text("locked", identifier), wanted)
             self.assertTrue(is_folder(wanted))
@@ -30,8 +30,9 @@ class Words(unittest.TestCase):
         for word in ("locked:a", "locked:a b=/x", "a=/x", "=", "locked:a="):
             with self.assertRaises(UsageFault, msg=word):
                 want_of(word)
-        with self.assertRaisesRegex(UsageFault, "locked:a%20b"):
-            want_of("locked:a b=/x")
+        for word, hint in (("locked:a b=/x", "locked:a%20b"), ("locked:\udcff=/x", "locked:%FF")):
+            with self.assertRaisesRegex(UsageFault, hint):
+                want_of(word)
 
     def test_grants(self) -> None:
         grant = grant_of(f"1 77 2 9 plain locked:a=b=3:{KEY} ro=private:p#4=0:{EMPTY}".split(" "))

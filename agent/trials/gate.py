@@ -139,7 +139,7 @@ def count(room: str) -> str:
 
 def tried(name: str, *words: str, last: int = 1) -> str:
     """The last lines of another trial."""
-    done = subprocess.run([sys.executable, TRIAL.format(name), *words], stdin=subprocess.DEVNULL, capture_output=True, text=True, timeout=600)
+    done = subprocess.run([sys.executable, TRIAL.format(name), *words], stdin=subprocess.DEVNULL, capture_output=True, text=True, timeout=1800)
     lines = (done.stdout + done.stderr).splitlines()
     if any(line.startswith("wrong: ") for line in lines):
         raise Wrong("\n".join(lines[-MOST:]))
