@@ -3,6 +3,7 @@
 
 use answers::Command;
 use clap::builder::ValueParser;
+use clap::error::ErrorKind;
 use clap::{Arg, ArgAction, ArgMatches, Error};
 use draw::Range;
 use names::{EVENTS, NODES, NodeId};
@@ -206,6 +207,7 @@ fn record_arg<'a>(alloc: Global) -> Arg<'a> {
     Arg::new(alloc, "record")
         .long("record")
         .value_name("PATH")
+        .value_parser(ValueParser::NonEmptyString)
         .help("Keeps the coordinator's record in this file, as `farmctl record` reads it")
 }
 
@@ -254,6 +256,7 @@ fn place_arg<'a>(
         .long(name)
         .value_name(value)
         .required(true)
+        .value_parser(ValueParser::NonEmptyString)
         .help(help)
 }
 
@@ -458,16 +461,31 @@ fn found_words<'a>(
     })
 }
 
+/// What words that are sound one by one say wrong together, if they do.
+fn disagreement(request: Request<'_>) -> Option<&'static str> {
+    match request {
+        Request::Print(Command::Draw(range)) if range.last < range.first => Some(
+            "--to is below --from",
+        ),
+        Request::Node(place) if place.nodes < place.node.0 => Some("--node is above --nodes"),
+        _ => None,
+    }
+}
+
 /// What the words say; without words, the replay of the standard input. An error is a usage fault, the help that was
 /// asked for, or out of memory.
 pub fn words_of<'a>(alloc: Global, words: &'a [String]) -> Result<Words<'a>, Error> {
     if words.is_empty() {
         return Ok(default_words(alloc)?);
     }
-    let matches = farmctl(alloc)?.try_get_matches_from(words)?;
+    let mut program = farmctl(alloc)?;
+    let matches = program.try_get_matches_from_mut(words)?;
     let found = match matches.subcommand() {
         Some((name, found)) => found_words(alloc, name, found),
         None => default_words(alloc),
-    };
-    Ok(found?)
+    }?;
+    match disagreement(found.request) {
+        Some(said) => Err(program.error(ErrorKind::ValueValidation, said)?),
+        None => Ok(found),
+    }
 }

@@ -137,9 +137,10 @@ pub fn act<O: Write, E: Write>(
 ) -> u8
     // At status 0 the standard output has the answers of all files, one after the other.
     ensures done { result ≡ DONE → (text : List ℕ) × AnswersAll command files.items text × Appends (O.contents out.old) (O.contents out.new) text }
-    // At status 1 the standard error has the line of the first fault, and nothing is printed to the standard output.
+    // At status 1 the standard error has the line of the first fault. Unless answers are written, or can't be, the standard
+    // output stays as it was.
     ensures refused { result ≡ REFUSED → (line : List ℕ) × FirstFault command files.items line × Appends (E.contents err.old) (E.contents err.new) line }
-    ensures quiet { result ≡ REFUSED → out.new ≡ out.old }
+    ensures quiet { result ≢ DONE → result ≢ FAULT → out.new ≡ out.old }
 {
     let mut all = String::new(alloc);
     for (name, bytes) in files {

@@ -2,7 +2,7 @@
 ghost use Rattle.std.specs.Prelude.{◌≡◌, ◌≢◌, ◌+◌, ◌++◌, ◌∷◌, [], ℕ, List, length, map, None, IfOk, IfErr, IfSome, IfNone, OnOk};
 ghost use Rattle.std.specs.String.{string_bytes};
 ghost use Rattle.std.specs.Io.KnownBytes.{Appends};
-ghost use Rattle.commands.specs.declared.acts.TheConstants.{DONE, REFUSED};
+ghost use Rattle.commands.specs.declared.acts.TheConstants.{DONE, FAULT, REFUSED};
 ghost use Rattle.commands.specs.declared.running.InputFault.TheVariants as inputs;
 ghost use Rattle.answers.specs.Answers.{SpellsGraph, IsNoGraph};
 ghost use Rattle.commands.specs.Runs.{job_line, job_lines, commits_line, names_of, IsRunOf, IsRecordOf};
@@ -349,6 +349,7 @@ fn print_report<R: Files, O: Write, E: Write>(
     ensures done { result.status ≡ DONE → Appends (O.contents out.old) (O.contents out.new) (string_bytes report.text) }
     ensures failed { result.status ≡ DONE → result.failed.items ≡ report.failed.items }
     ensures never_refused { result.status ≢ REFUSED }
+    ensures quiet { result.status ≢ DONE → result.status ≢ FAULT → out.new ≡ out.old }
 {
     let Report {
         text,
@@ -393,7 +394,7 @@ pub fn solve<R: Files + AllocGlobal + Threads + Wait + Sync, O: Write, E: Write>
     ensures done { result.status ≡ DONE → (text : List ℕ) × (saved : List ℕ)
         × IsRunOf (record { nodes = order.entry.nodes }) (names_of files.items) text saved (map (λ each. each.place) result.failed.items)
         × Appends (O.contents out.old) (O.contents out.new) text }
-    ensures quiet { result.status ≡ REFUSED → out.new ≡ out.old }
+    ensures quiet { result.status ≢ DONE → result.status ≢ FAULT → out.new ≡ out.old }
 {
     let alloc = rt.alloc();
     let Order { nodes, record_path } = order;

@@ -50,6 +50,8 @@ impl DownCount {
 }
 
 impl Default for DownCount {
+    ghost is_default = { λ count. count ≡ 0 };
+
     fn default() -> Self {
         DownCount::new()
     }

@@ -60,6 +60,7 @@ impl Table {
         ensures front { IsFront self.old self.new }
         ensures table { OnOk result (IsTable self.new) }
         ensures entries { OnOk result (self.new.entries.items ≡ self.old.entries.items ++ record { key = key; inputs = inputs; progress = Waiting } ∷ []) }
+        ensures err { OnErr result ((self.new.entries.items ≡ self.old.entries.items) × (self.new.numbers.keys ≡ self.old.numbers.keys)) }
     {
         self.add_number(key)?;
         self.entries.push_reserved(Entry {
