@@ -1,5 +1,5 @@
 //! The texts of a record in its files, over a device that may lose what it wasn't told to sync.
-ghost use Rattle.std.specs.Prelude.{◌≡◌, ◌≢◌, ◌<◌, ◌≤◌, ◌⊎◌, ◌++◌, ◌∷◌, ◌+◌, [], ℕ, List, true, false, length, take, IfOk, IfSome, OnOk, OnErr, IsErr, Decides, All};
+ghost use Rattle.std.specs.Prelude.{◌≡◌, ◌≢◌, ◌<◌, ◌≤◌, ◌⊎◌, ◌++◌, ◌∷◌, ◌+◌, [], ℕ, List, true, length, take, IfOk, IfSome, OnOk, OnErr, IsErr, Decides, All};
 ghost use Rattle.filekeeper.specs.Disks.{calls_of, Files, IsTidied, Leaves, MaySee};
 ghost use Rattle.filekeeper.specs.Framing.{framed, log_bytes, AreTextsOf, IsTold};
 ghost use Rattle.filekeeper.specs.Settled.{Clashes, HoldsOneOf, HoldsSome, HasRead, IsAddedTo, IsCut, IsSettled, IsTakenUp, StandsIn};
@@ -186,6 +186,8 @@ impl<D: Device> RecordFiles<D> {
         requires { how_many_last self.old < length (texts_in self.old).entries }
         ensures texts { (t : Texts) (entry : List ℕ) → texts_in self.old ≡ with_text entry t → texts_in self.new ≡ t }
         ensures lasts { how_many_last self.new ≡ how_many_last self.old }
+        ensures settled { is_settled self.new ≡ is_settled self.old }
+        ensures calls { calls_in self.new ≡ calls_in self.old }
     {
         self.log.pop();
     }
@@ -195,7 +197,8 @@ impl<D: Device> RecordFiles<D> {
         ensures ok { OnOk result ((how_many_last self.new ≡ length (texts_in self.new).entries) × (is_settled self.new ≡ true)) }
         ensures err { OnErr result (how_many_last self.new ≡ how_many_last self.old) }
         ensures texts { texts_in self.new ≡ texts_in self.old }
-        ensures unsettled { is_settled self.old ≡ false → calls_in self.new ≡ calls_in self.old }
+        ensures settled { OnOk result (is_settled self.old ≡ true) }
+        ensures unsettled { OnErr result ((self.new ≡ self.old) ⊎ (is_settled self.old ≡ true)) }
 
         // A crash at any moment leaves what lasted, and the first of the entries that were gathered.
         ensures any_moment { is_settled self.old ≡ true → Leaves (HoldsSome (lasting_in self.old) (gathered_in self.old)) (calls_in self.old) (calls_in self.new) }
@@ -270,7 +273,8 @@ impl<D: Device> RecordFiles<D> {
         ensures ok { OnOk result ((texts_in self.new ≡ whole_alone bytes.items) × (how_many_last self.new ≡ 0) × (is_settled self.new ≡ true)) }
         ensures err { OnErr result (((texts_in self.new ≡ texts_in self.old) × (how_many_last self.new ≡ how_many_last self.old))
             ⊎ ((texts_in self.new ≡ whole_alone bytes.items) × (how_many_last self.new ≡ 0))) }
-        ensures unsettled { is_settled self.old ≡ false → calls_in self.new ≡ calls_in self.old }
+        ensures settled { OnOk result (is_settled self.old ≡ true) }
+        ensures unsettled { OnErr result ((self.new ≡ self.old) ⊎ (is_settled self.old ≡ true)) }
 
         // Nothing is touched where other bytes have the name that entries follow.
         ensures clash { Clashes bytes.items (lasting_in self.old) → IsErr result × (self.new ≡ self.old) }
