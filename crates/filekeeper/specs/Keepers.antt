@@ -1,6 +1,7 @@
 -- Keepers of the texts of a record in files, and keepers that gather.
-use Rattle.std.specs.Prelude.{◌≡◌, ◌⊎◌, ℕ, Bool, true, false, List, Option, Some, None, length, take}
+use Rattle.std.specs.Prelude.{◌≡◌, ◌⊎◌, ℕ, Bool, true, false, List, [], Option, Some, None, length, take}
 use Rattle.filekeeper.specs.Calls.{Called}
+use Rattle.filekeeper.specs.Settled.{HasRead}
 use Rattle.saverecord.specs.Keepers.{counted_up}
 use Rattle.saverecord.specs.Texts.{Texts}
 use Rattle.saverecord.specs.declared.refusal.KeeperRefusal.{KeeperRefusal}
@@ -34,6 +35,10 @@ lasts f = record f { lasting = length f.texts.entries }
 -- after these calls, and settled or not
 abbrev pub left_by : List Called → Bool → Filed → Filed
 left_by calls settled f = record f { calls = calls; settled = settled }
+
+-- a keeper of the texts that files held when they were read: it changed none since, and the files are settled
+abbrev pub IsOpened : Filed → Type 0
+IsOpened f = HasRead [] f.texts f.calls × (f ≡ left_by f.calls true (lasts f)) × (f.failures ≡ 0)
 
 -- the same; or, where the files were settled, these were called, and are settled or not
 abbrev pub MayCall : Filed → Filed → Type 0

@@ -1,7 +1,7 @@
 //! Keeps a record in files.
 ghost use Rattle.std.specs.Prelude.{◌≡◌, ◌≢◌, ◌≤◌, ◌⊎◌, true, IfOk, OnOk, OnErr, Err};
 ghost use Rattle.std.specs.Result.{is_ok, result_err};
-ghost use Rattle.filekeeper.specs.Keepers.{Filed, FileSaves, FileLoads, FileGathers, FileSyncs, failed_once, file_texts, lasts, left_by};
+ghost use Rattle.filekeeper.specs.Keepers.{Filed, FileSaves, FileLoads, FileGathers, FileSyncs, IsOpened, failed_once, file_texts, lasts, left_by};
 ghost use Rattle.saverecord.specs.Keepers.{HasFailed};
 ghost use Rattle.saverecord.specs.Texts.{whole_alone, with_text};
 
@@ -51,16 +51,24 @@ impl<'a, R: Files> Model for FileKeeper<'a, R> {
 }
 
 impl<'a, R: Files> FileKeeper<'a, R> {
+    ghost use Rattle.filekeeper.specs.RecordFiles.{calls_in, texts_in, how_many_last, is_settled};
+
+    /// Keeps the texts of these files. Nothing has failed yet.
+    fn of(files: RecordFiles<HostDevice<'a, R>>) -> Self
+        ensures kept { (result.texts ≡ texts_in files.entry) × (result.lasting ≡ how_many_last files.entry) × (result.failures ≡ 0) }
+        ensures left { (result.settled ≡ is_settled files.entry) × (result.calls ≡ calls_in files.entry) }
+    {
+        FileKeeper { files, failures: 0 }
+    }
+
     /// Keeps a record in the file of this path and its log, beginning with what they hold; where there is no file, no
     /// record was saved yet. A save also writes the path with `.new` behind it.
     pub fn open(files: &'a R, alloc: Global, path: &str) -> io::Result<Self>
-        ensures { IfOk result (λ k. (k.failures ≡ 0) × (k ≡ left_by k.calls true (lasts k))) }
+        ensures { IfOk result IsOpened }
     {
         let device = HostDevice::new(files, alloc, path)?;
-        Ok(FileKeeper {
-            files: RecordFiles::open(alloc, Disk::new(device))?,
-            failures: 0,
-        })
+        let files = RecordFiles::open(alloc, Disk::new(device))?;
+        Ok(FileKeeper::of(files))
     }
 
     /// Puts a record in the file of this path, in the place of what stood there and in its log, of which it reads nothing. After an
