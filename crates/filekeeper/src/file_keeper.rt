@@ -1,5 +1,5 @@
 //! Keeps a record in files.
-ghost use Rattle.std.specs.Prelude.{◌≡◌, ◌≢◌, ◌≤◌, ◌⊎◌, true, IfOk, OnOk, OnErr, Err};
+ghost use Rattle.std.specs.Prelude.{◌≡◌, ◌≢◌, ◌≤◌, ◌⊎◌, ◌↔◌, true, IsTrue, IfOk, OnOk, OnErr, Err};
 ghost use Rattle.std.specs.Result.{is_ok, result_err};
 ghost use Rattle.filekeeper.specs.Keepers.{Filed, FileSaves, FileLoads, FileGathers, FileSyncs, IsOpened, failed_once, file_texts, lasts, left_by};
 ghost use Rattle.saverecord.specs.Keepers.{HasFailed};
@@ -148,7 +148,7 @@ impl<'a, R: Files> FileKeeper<'a, R> {
 
     /// Whether no entry is gathered only.
     fn has_all(&self) -> bool
-        ensures { result ≡ true → self.now ≡ lasts self.now }
+        ensures { IsTrue result ↔ (self.now ≡ lasts self.now) }
     {
         self.files.has_all()
     }

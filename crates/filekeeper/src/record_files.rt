@@ -1,5 +1,5 @@
 //! The texts of a record in its files, over a device that may lose what it wasn't told to sync.
-ghost use Rattle.std.specs.Prelude.{◌≡◌, ◌≢◌, ◌<◌, ◌≤◌, ◌⊎◌, ◌++◌, ◌∷◌, ◌+◌, [], ℕ, List, true, length, take, IfOk, IfSome, OnOk, OnErr, IsErr, Decides, All};
+ghost use Rattle.std.specs.Prelude.{◌≡◌, ◌≢◌, ◌<◌, ◌≤◌, ◌⊎◌, ◌↔◌, ◌++◌, ◌∷◌, ◌+◌, [], ℕ, List, true, length, take, IfOk, IfSome, OnOk, OnErr, IsErr, IsTrue, Decides, All};
 ghost use Rattle.filekeeper.specs.Disks.{calls_of, Files, IsTidied, Leaves, MaySee};
 ghost use Rattle.filekeeper.specs.Framing.{framed, log_bytes, AreTextsOf, IsTold};
 ghost use Rattle.filekeeper.specs.Settled.{Clashes, HoldsOneOf, HoldsSome, HasRead, IsAddedTo, IsCut, IsSettled, IsTakenUp, StandsIn};
@@ -165,7 +165,7 @@ impl<D: Device> RecordFiles<D> {
 
     /// Whether no entry is gathered only.
     pub fn has_all(&self) -> bool
-        ensures { result ≡ true → how_many_last self.now ≡ length (texts_in self.now).entries }
+        ensures { IsTrue result ↔ (how_many_last self.now ≡ length (texts_in self.now).entries) }
     {
         self.lasting == self.log.entries().len()
     }
