@@ -2,6 +2,7 @@
 ghost use Rattle.std.specs.Prelude.{◌≡◌, ◌≢◌, ◌≤◌, ◌⊎◌, ◌↔◌, true, IsTrue, IfOk, OnOk, OnErr, Err};
 ghost use Rattle.std.specs.Result.{is_ok, result_err};
 ghost use Rattle.filekeeper.specs.Keepers.{Filed, FileSaves, FileLoads, FileGathers, FileSyncs, IsOpened, failed_once, file_texts, lasts, left_by};
+ghost use Rattle.filekeeper.specs.Settled.{WereRead};
 ghost use Rattle.saverecord.specs.Keepers.{HasFailed};
 ghost use Rattle.saverecord.specs.Texts.{whole_alone, with_text};
 
@@ -124,12 +125,9 @@ impl<'a, R: Files> FileKeeper<'a, R> {
         ensures ok { OnOk result (self.new ≡ left_by self.new.calls true (lasts self.old)) }
         ensures err { OnErr result ((self.new ≡ left_by self.new.calls self.new.settled self.old)
             ⊎ (self.new ≡ left_by self.new.calls self.new.settled (lasts self.old))) }
+        ensures read { OnOk result (WereRead (file_texts self.old) self.old.calls self.new.calls) }
     {
-        if self.files.is_settled() {
-            self.files.sync()?;
-        }
-        self.files.reload(alloc)?;
-        self.files.sync()
+        self.files.load(alloc)
     }
 
     /// Why a load is refused with this error. A fault is counted. Entries that are gathered only can't be told to last, so that want of
@@ -231,6 +229,7 @@ impl<'a, R: Files> Keeper for FileKeeper<'a, R> {
         ensures cause { result ≡ Err KeeperRefusal.Fault → HasFailed self.old.failures self.new.failures }
         ensures count { self.old.failures ≤ self.new.failures }
         ensures lasts { OnOk result (file_texts self.new ≡ self.new.texts) }
+        ensures read { OnOk result (WereRead (file_texts self.old) self.old.calls self.new.calls) }
     {
         match self.load_files(alloc) {
             Ok(()) => copied(alloc, self.log()),

@@ -2,7 +2,7 @@
 ghost use Rattle.std.specs.Prelude.{◌≡◌, ◌≢◌, ◌<◌, ◌≤◌, ◌⊎◌, ◌↔◌, ◌++◌, ◌∷◌, ◌+◌, [], ℕ, List, true, length, take, IfOk, IfSome, OnOk, OnErr, IsErr, IsTrue, Decides, All};
 ghost use Rattle.filekeeper.specs.Disks.{calls_of, Files, IsTidied, Leaves, MaySee};
 ghost use Rattle.filekeeper.specs.Framing.{framed, log_bytes, AreTextsOf, IsTold};
-ghost use Rattle.filekeeper.specs.Settled.{Clashes, HoldsOneOf, HoldsSome, HasRead, IsAddedTo, IsCut, IsSettled, IsTakenUp, StandsIn};
+ghost use Rattle.filekeeper.specs.Settled.{Clashes, HoldsOneOf, HoldsSome, HasRead, IsAddedTo, IsCut, IsSettled, IsTakenUp, StandsIn, WereRead};
 ghost use Rattle.saverecord.specs.Texts.{Texts, whole_alone};
 ghost use Rattle.filekeeper.specs.declared.device_call.DeviceCall.TheVariants.{WriteDraft, RenameDraft};
 
@@ -308,6 +308,7 @@ impl<D: Device> RecordFiles<D> {
     /// then.
     pub fn reload(&mut self, alloc: Global) -> io::Result<()>
         ensures ok { OnOk result (is_settled self.new ≡ true) }
+        ensures read { OnOk result (WereRead (lasting_in self.old) (calls_in self.old) (calls_in self.new)) }
         ensures texts { (texts_in self.new ≡ texts_in self.old) × (how_many_last self.new ≡ how_many_last self.old) }
 
         // A crash at any moment leaves what it might have left before, but for what stands behind the entries that last.
@@ -322,5 +323,19 @@ impl<D: Device> RecordFiles<D> {
         self.disk.tidy(self.len)?;
         self.settled = true;
         Ok(())
+    }
+
+    /// Has the files hold all texts, and reads them again. It is settled then.
+    pub(crate) fn load(&mut self, alloc: Global) -> io::Result<()>
+        ensures ok { OnOk result ((how_many_last self.new ≡ length (texts_in self.new).entries) × (is_settled self.new ≡ true)) }
+        ensures err { OnErr result ((how_many_last self.new ≡ how_many_last self.old) ⊎ (how_many_last self.new ≡ length (texts_in self.new).entries)) }
+        ensures texts { texts_in self.new ≡ texts_in self.old }
+        ensures read { OnOk result (WereRead (lasting_in self.old) (calls_in self.old) (calls_in self.new)) }
+    {
+        if self.settled {
+            self.sync()?;
+        }
+        self.reload(alloc)?;
+        self.sync()
     }
 }
