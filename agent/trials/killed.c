@@ -9,6 +9,7 @@
 //   laterN    only calls on files count: this one fails with EIO, and before the N-th after it the power fails, as in `names`
 //   again     the process is killed before the call. What it didn't sync is told in the file KILL_LEFT to the next one, which has KILL_HOW
 //             `names`: if the power fails, that is gone too
+//   dyingN    as `laterN`, but the calls up to the power's failure fail too
 #define _GNU_SOURCE
 #include <dlfcn.h>
 #include <errno.h>
@@ -26,7 +27,8 @@
 
 enum { MOST = 256 };
 static uint64_t own, *count = &own, at, later;
-static char how = '-'; // the first letter of KILL_HOW, but `r` of fuller
+static char how = '-'; // the first letter of KILL_HOW, but `r` of fuller, and `l` of dyingN
+static uint64_t failing = 1; // calls, as `laterN` and `dyingN` have them
 static struct { dev_t dev; ino_t ino; int file; off_t len; } written[MOST]; // not synced: the length that lasts
 static struct { dev_t dev; ino_t ino; char from[PATH_MAX], to[PATH_MAX], was[PATH_MAX]; int had; } named[MOST]; // folder not synced
 static int writings, namings;
@@ -115,8 +117,10 @@ __attribute__((constructor)) static void begin(void) {
   count = made;
   at = strtoull(number, 0, 10);
   how = strcmp(kind, "fuller") ? kind[0] : 'r';
-  if (how == 'l')
+  if (how == 'l' || how == 'd')
     later = strtoull(kind + 5, 0, 10);
+  if (how == 'd')
+    how = 'l', failing = later;
   left = getenv("KILL_LEFT");
   if (how == 'n')
     hear_left();
@@ -165,7 +169,7 @@ static int fails(int counts) {
     end();
   if (counts_files_alone()) {
     errno = how == 'l' ? EIO : ENOSPC;
-    return now == at || (how == 'r' && at && now > at);
+    return at && now >= at && (how == 'r' || now < at + failing);
   }
   if (now == at)
     end();

@@ -1,7 +1,7 @@
 #!/usr/bin/env python3
 """Kills each filter at each of its writes, syncs and renames in turn, over short conversations, starts it again, and looks at what it
-kept; so too where half of a write was done, where the power fails and takes what wasn't synced, where the disk is full, where a call
-fails and the power does so some calls later, and where the power fails some calls after the start that follows a kill.
+kept; so too where half of a write was done, where the power fails and takes what wasn't synced, where the disk is full, where one call
+fails, or all do for a while, and then the power, and where the power fails some calls after the start that follows a kill.
 
 Prints a line for each conversation and way, and as the last one `N right, M wrong`. The status is 1 where something was wrong.
 """
@@ -24,7 +24,7 @@ from agent.lines import Answer, Filter, FilterGone  # noqa: E402
 from agent.tools import TOP, farmctl  # noqa: E402
 from agent.trials.talks import KEY, KINDS, Conversation, Filling, Step, WithFullLog, Wrong, expect  # noqa: E402
 
-WAYS = ("before", "half", "cut", "names", "full", "fuller", "later1", "later2", "later3", "later4", "again1", "again2", "again3", "again4")  # as killed.c has them
+WAYS = ("before", "half", "cut", "names", "full", "fuller", "later1", "later2", "later3", "later4", "dying8", "again1", "again2", "again3", "again4")  # as killed.c has them
 TRIES = 4  # of a line that was refused for want of room
 
 
@@ -84,7 +84,7 @@ class Trial:
             if answer.note != "refused SaveFault" or self.way == "fuller":
                 break
             expect(not answer.sends, f"a save failed, and it sends {answer.sends}")
-        if answer.note == "refused SaveFault":
+        if answer.note in ("refused SaveFault", "refused Down"):
             raise FilterGone
         return answer
 

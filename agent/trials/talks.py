@@ -195,7 +195,7 @@ class Filling(WithCoordinator):
 
 
 class WithFullLog(WithCoordinator):
-    """The log becomes too long, and a record takes its place."""
+    """The log becomes too long amid lines that come together, and a record takes its place."""
 
     filled = ""  # the folder that `Filling` left
 
@@ -205,7 +205,7 @@ class WithFullLog(WithCoordinator):
             shutil.copy(f"{self.filled}/{name}", room)
         self.tickets = [1]
         self.versions = {(slot, 1): (1, digest_of(f"1 {slot}".encode())) for slot in BIG}
-        self.steps = [step for number in range(2, 6) for step in (self.ask(1, number, "locked:a"), self.commit(1, number, "locked:a"))]
+        self.steps = [self.ask(1, 2, "locked:a"), self.commit(1, 2, "locked:a"), self.at_once(1, range(3, 7)), self.ask(1, 7, "locked:a")]
 
 
 class WithNode:

@@ -1,5 +1,5 @@
 -- What the program prints for a record (this project's own): a line for each part, in the record's order.
-use Rattle.std.specs.Prelude.{◌≡◌, ⊤, ℕ, ◌<◌, ◌≤◌, Bool, if◌then◌else◌, List, [], ◌++◌, take, codes, decimal, Option, Some, None, Ok, Err}
+use Rattle.std.specs.Prelude.{◌≡◌, ◌⊎◌, ⊤, ℕ, ◌<◌, ◌≤◌, Bool, if◌then◌else◌, List, [], ◌++◌, take, codes, decimal, Option, Some, None, Ok, Err}
 use Rattle.std.specs.List.{flat_map}
 use Rattle.std.specs.Result.{result_err}
 use Rattle.farm_base.specs.declared.lease.Lease.{Lease}
@@ -78,10 +78,6 @@ IsNoRecord bytes (failure.Entry place e) = ⊥
 IsNoRecord bytes (failure.BadHead place) = ⊥
 IsNoRecord bytes failure.Memory = ⊤
 
--- the bytes hold what a record's file and its log's hold
-abbrev pub HoldsBoth : List ℕ → List ℕ → List ℕ → Type 0
-HoldsBoth whole tail bytes = (texts : Texts) × AreTextsOf whole tail texts × (ledger_in (whole_alone bytes) ≡ ledger_in texts)
-
 -- the whole record with the first of its entries
 abbrev pub first_entries : ℕ → Texts → Texts
 first_entries n texts = record texts { entries = take n texts.entries }
@@ -89,6 +85,11 @@ first_entries n texts = record texts { entries = take n texts.entries }
 -- why texts hold no ledger, if they don't
 abbrev pub refusal_in : Texts → Option RecordRefusal
 refusal_in texts = result_err (ledger_in texts)
+
+-- the bytes hold what a record's file and its log's hold: where entries follow the record, a ledger
+abbrev pub HoldsBoth : List ℕ → List ℕ → List ℕ → Type 0
+HoldsBoth whole tail bytes = (texts : Texts) × AreTextsOf whole tail texts × (ledger_in (whole_alone bytes) ≡ ledger_in texts)
+    × ((texts.entries ≡ []) ⊎ (refusal_in texts ≡ None))
 
 -- with this many entries, and not with fewer, the texts hold no ledger
 abbrev pub BreaksAt : Texts → ℕ → RecordRefusal → Type 0

@@ -353,12 +353,13 @@ gathered_file = record { saves = saves_so; fails = fails_so; loads = loads_so; s
   where
     saves_so : (old : Filed) (texts : Texts) (new : Filed) → GatherSaves FileGathers FileSaves old texts true new → new.texts ≡ texts
     saves_so old texts new (inl g) = ap (λ f. f.texts) g.1
-    saves_so old texts new (inr s) = ap (λ f. f.texts) s
+    saves_so old texts new (inr s) = ap (λ f. f.texts) s.1
 
     fails_so : (old : Filed) (texts : Texts) (new : Filed) → GatherSaves FileGathers FileSaves old texts false new → (new.texts ≡ old.texts) ⊎ (new.texts ≡ texts)
     fails_so old texts new (inl g) = (let bad : false ≡ true = g.0 in absurd (cc bad))
-    fails_so old texts new (inr (inl f)) = inl (ap (λ f. f.texts) f)
-    fails_so old texts new (inr (inr f)) = inr (ap (λ f. f.texts) f)
+    fails_so old texts new (inr (inl (inl same))) = inl (ap (λ f. f.texts) same)
+    fails_so old texts new (inr (inl (inr called))) = inl (ap (λ f. f.texts) called.1)
+    fails_so old texts new (inr (inr called)) = inr (ap (λ f. f.texts) called.1)
 
     loads_so : (old : Filed) (refusal : Option KeeperRefusal) (new : Filed) → FileLoads old refusal new → new.texts ≡ old.texts
     loads_so old None new h = ap (λ f. f.texts) h
@@ -367,8 +368,9 @@ gathered_file = record { saves = saves_so; fails = fails_so; loads = loads_so; s
     loads_so old (Some keeper.Fault) new (inr h) = ap (λ f. f.texts) h
 
     syncs_so : (old : Filed) (ok : Bool) (new : Filed) → FileSyncs old ok new → new.texts ≡ old.texts
-    syncs_so old true new h = ap (λ f. f.texts) h
-    syncs_so old false new h = ap (λ f. f.texts) h
+    syncs_so old true new h = ap (λ f. f.texts) h.1
+    syncs_so old false new (inl same) = ap (λ f. f.texts) same
+    syncs_so old false new (inr called) = ap (λ f. f.texts) called.1
 
 pub over_files : ABatchOverFilesIsARun
 over_files = a_batch_is_a_run (GatherSaves FileGathers FileSaves) FileLoads FileSyncs (λ f. f.texts) file_texts gathered_file

@@ -5,3 +5,4 @@ mod TakingLemmas
 mod AddingLemmas
 mod ReplacingLemmas
 mod SyncLemmas
+mod LoadLemmas

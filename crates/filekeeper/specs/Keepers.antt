@@ -1,5 +1,7 @@
 -- Keepers of the texts of a record in files, and keepers that gather.
-use Rattle.std.specs.Prelude.{◌≡◌, ◌⊎◌, ℕ, Bool, true, false, Option, Some, None, length, take}
+use Rattle.std.specs.Prelude.{◌≡◌, ◌⊎◌, ℕ, Bool, true, false, List, [], Option, Some, None, length, take}
+use Rattle.filekeeper.specs.Calls.{Called}
+use Rattle.filekeeper.specs.Settled.{HasRead}
 use Rattle.saverecord.specs.Keepers.{counted_up}
 use Rattle.saverecord.specs.Texts.{Texts}
 use Rattle.saverecord.specs.declared.refusal.KeeperRefusal.{KeeperRefusal}
@@ -11,6 +13,10 @@ pub record Filed : Type 0 where
   pub texts : Texts
   -- how many of the entries the files are known to hold, behind the whole record
   pub lasting : ℕ
+  -- a crash leaves the texts that the files are known to hold, and nothing else
+  pub settled : Bool
+  -- the calls of the files' device, the newest first
+  pub calls : List Called
   -- the number of saves, appends, syncs and loads that failed
   pub failures : ℕ
 
@@ -26,25 +32,38 @@ file_texts f = record f.texts { entries = take f.lasting f.texts.entries }
 abbrev pub lasts : Filed → Filed
 lasts f = record f { lasting = length f.texts.entries }
 
--- a save or an append over files: if it fails the old or the new texts are kept, and the failure is counted
+-- after these calls, and settled or not
+abbrev pub left_by : List Called → Bool → Filed → Filed
+left_by calls settled f = record f { calls = calls; settled = settled }
+
+-- a keeper of the texts that files held when they were read: it changed none since, and the files are settled
+abbrev pub IsOpened : Filed → Type 0
+IsOpened f = HasRead [] f.texts f.calls × (f ≡ left_by f.calls true (lasts f)) × (f.failures ≡ 0)
+
+-- the same; or, where the files were settled, these were called, and are settled or not
+abbrev pub MayCall : Filed → Filed → Type 0
+MayCall f g = (g ≡ f) ⊎ ((f.settled ≡ true) × (g ≡ left_by g.calls g.settled f))
+
+-- a save or an append over files, which succeeds only where these are settled: if it fails the old or the new texts are kept, and the
+-- failure is counted
 abbrev pub FileSaves : Filed → Texts → Bool → Filed → Type 0
-FileSaves f texts true g = g ≡ lasts (record f { texts = texts })
-FileSaves f texts false g = (g ≡ failed_once f) ⊎ (g ≡ failed_once (lasts (record f { texts = texts })))
+FileSaves f texts true g = (f.settled ≡ true) × (g ≡ left_by g.calls true (lasts (record f { texts = texts })))
+FileSaves f texts false g = MayCall (failed_once f) g ⊎ ((f.settled ≡ true) × (g ≡ left_by g.calls g.settled (failed_once (lasts (record f { texts = texts })))))
 
 -- an entry that is gathered over files: these stay as they were
 abbrev pub FileGathers : Filed → Texts → Filed → Type 0
 FileGathers f texts g = g ≡ record f { texts = texts }
 
--- a sync over files: if it fails that is counted, and nothing else changes
+-- a sync over files, which succeeds only where these are settled: if it fails that is counted, and no texts change
 abbrev pub FileSyncs : Filed → Bool → Filed → Type 0
-FileSyncs f true g = g ≡ lasts f
-FileSyncs f false g = g ≡ failed_once f
+FileSyncs f true g = (f.settled ≡ true) × (g ≡ left_by g.calls true (lasts f))
+FileSyncs f false g = MayCall (failed_once f) g
 
--- a load over files, which begins with a sync: a fault is counted
+-- a load over files, after which these are settled: a fault is counted
 abbrev pub FileLoads : Filed → Option KeeperRefusal → Filed → Type 0
-FileLoads f (Some Fault) g = (g ≡ failed_once f) ⊎ (g ≡ failed_once (lasts f))
-FileLoads f (Some OutOfMemory) g = g ≡ lasts f
-FileLoads f None g = g ≡ lasts f
+FileLoads f (Some Fault) g = (g ≡ left_by g.calls g.settled (failed_once f)) ⊎ (g ≡ left_by g.calls g.settled (failed_once (lasts f)))
+FileLoads f (Some OutOfMemory) g = g ≡ left_by g.calls g.settled (lasts f)
+FileLoads f None g = g ≡ left_by g.calls true (lasts f)
 
 -- a save or an append over a keeper that gathers: an entry is gathered, and a whole record saved
 abbrev pub GatherSaves : {K : Type 0} → (K → Texts → K → Type 0) → (K → Texts → Bool → K → Type 0) → K → Texts → Bool → K → Type 0

@@ -62,6 +62,11 @@ HoldsOneOf old new f = Holds old f ⊎ Holds new f
 abbrev pub StandsIn : Texts → List ℕ → List ℕ → Type 0
 StandsIn texts whole log = (whole ≡ texts.whole) × ((rest : List ℕ) × (log ≡ log_bytes texts.whole texts.entries ++ rest))
 
+-- since the first calls the files were read, and these texts stood there
+abbrev pub WereRead : Texts → List Called → List Called → Type 0
+WereRead texts old new = (whole : List ℕ) × (log : List ℕ) × (before : List Called) × (since : List Called)
+    × (new ≡ since ++ (ReadLog, log) ∷ (ReadRecord, whole) ∷ (before ++ old)) × StandsIn texts whole log
+
 -- files that might be left before; or such files of this record, with the log cut behind these entries
 abbrev pub IsCut : Texts → List Called → Files → Type 0
 IsCut texts old f = (d : Files) × MayLeave old d × ((f ≡ d) ⊎ ((d.whole ≡ texts.whole) × (f ≡ cut_to (length (log_bytes texts.whole texts.entries)) d)))

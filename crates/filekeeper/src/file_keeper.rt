@@ -1,7 +1,8 @@
 //! Keeps a record in files.
-ghost use Rattle.std.specs.Prelude.{◌≡◌, ◌≢◌, ◌≤◌, ◌⊎◌, true, IfOk, OnOk, OnErr, Err};
+ghost use Rattle.std.specs.Prelude.{◌≡◌, ◌≢◌, ◌≤◌, ◌⊎◌, ◌↔◌, true, IsTrue, IfOk, OnOk, OnErr, Err};
 ghost use Rattle.std.specs.Result.{is_ok, result_err};
-ghost use Rattle.filekeeper.specs.Keepers.{Filed, FileSaves, FileLoads, FileGathers, FileSyncs, failed_once, file_texts, lasts};
+ghost use Rattle.filekeeper.specs.Keepers.{Filed, FileSaves, FileLoads, FileGathers, FileSyncs, IsOpened, failed_once, file_texts, lasts, left_by};
+ghost use Rattle.filekeeper.specs.Settled.{WereRead};
 ghost use Rattle.saverecord.specs.Keepers.{HasFailed};
 ghost use Rattle.saverecord.specs.Texts.{whole_alone, with_text};
 
@@ -43,24 +44,32 @@ fn copied(alloc: Global, log: &Log) -> Result<Log, KeeperRefusal>
 
 impl<'a, R: Files> Model for FileKeeper<'a, R> {
     ghost use Rattle.filekeeper.specs.Keepers.{Filed};
-    ghost use Rattle.filekeeper.specs.RecordFiles.{texts_in, how_many_last};
+    ghost use Rattle.filekeeper.specs.RecordFiles.{calls_in, texts_in, how_many_last, is_settled};
 
     ghost Value = { Filed };
 
-    ghost view = { λ k. record { texts = texts_in k.files; lasting = how_many_last k.files; failures = k.failures } };
+    ghost view = { λ k. record { texts = texts_in k.files; lasting = how_many_last k.files; settled = is_settled k.files; calls = calls_in k.files; failures = k.failures } };
 }
 
 impl<'a, R: Files> FileKeeper<'a, R> {
+    ghost use Rattle.filekeeper.specs.RecordFiles.{calls_in, texts_in, how_many_last, is_settled};
+
+    /// Keeps the texts of these files. Nothing has failed yet.
+    fn of(files: RecordFiles<HostDevice<'a, R>>) -> Self
+        ensures kept { (result.texts ≡ texts_in files.entry) × (result.lasting ≡ how_many_last files.entry) × (result.failures ≡ 0) }
+        ensures left { (result.settled ≡ is_settled files.entry) × (result.calls ≡ calls_in files.entry) }
+    {
+        FileKeeper { files, failures: 0 }
+    }
+
     /// Keeps a record in the file of this path and its log, beginning with what they hold; where there is no file, no
     /// record was saved yet. A save also writes the path with `.new` behind it.
     pub fn open(files: &'a R, alloc: Global, path: &str) -> io::Result<Self>
-        ensures { IfOk result (λ k. (k.failures ≡ 0) × (k ≡ lasts k)) }
+        ensures { IfOk result IsOpened }
     {
         let device = HostDevice::new(files, alloc, path)?;
-        Ok(FileKeeper {
-            files: RecordFiles::open(alloc, Disk::new(device))?,
-            failures: 0,
-        })
+        let files = RecordFiles::open(alloc, Disk::new(device))?;
+        Ok(FileKeeper::of(files))
     }
 
     /// Puts a record in the file of this path, in the place of what stood there and in its log, of which it reads nothing. After an
@@ -97,7 +106,8 @@ impl<'a, R: Files> FileKeeper<'a, R> {
         self.failures = self.failures.saturating_add(1);
     }
 
-    /// Writes the entries that are gathered only. A failure is counted.
+    /// Writes the entries that are gathered only. It fails while the files are unsettled, also where no entry is gathered: a record that was
+    /// saved may not last then. A failure is counted.
     fn write(&mut self) -> Result<(), SaveFault>
         ensures exact { FileSyncs self.old (is_ok result) self.new }
         ensures cause { OnErr result (HasFailed self.old.failures self.new.failures) }
@@ -112,14 +122,12 @@ impl<'a, R: Files> FileKeeper<'a, R> {
 
     /// Has the files hold all texts.
     fn load_files(&mut self, alloc: Global) -> io::Result<()>
-        ensures ok { OnOk result (self.new ≡ lasts self.old) }
-        ensures err { OnErr result ((self.new ≡ self.old) ⊎ (self.new ≡ lasts self.old)) }
+        ensures ok { OnOk result (self.new ≡ left_by self.new.calls true (lasts self.old)) }
+        ensures err { OnErr result ((self.new ≡ left_by self.new.calls self.new.settled self.old)
+            ⊎ (self.new ≡ left_by self.new.calls self.new.settled (lasts self.old))) }
+        ensures read { OnOk result (WereRead (file_texts self.old) self.old.calls self.new.calls) }
     {
-        if self.files.is_settled() {
-            self.files.sync()?;
-        }
-        self.files.reload(alloc)?;
-        self.files.sync()
+        self.files.load(alloc)
     }
 
     /// Why a load is refused with this error. A fault is counted. Entries that are gathered only can't be told to last, so that want of
@@ -138,7 +146,7 @@ impl<'a, R: Files> FileKeeper<'a, R> {
 
     /// Whether no entry is gathered only.
     fn has_all(&self) -> bool
-        ensures { result ≡ true → self.now ≡ lasts self.now }
+        ensures { IsTrue result ↔ (self.now ≡ lasts self.now) }
     {
         self.files.has_all()
     }
@@ -211,10 +219,6 @@ impl<'a, R: Files> Keeper for FileKeeper<'a, R> {
         ensures cause { OnErr result (HasFailed self.old.failures self.new.failures) }
         ensures count { self.old.failures ≤ self.new.failures }
     {
-        // Nothing is to be written then, also after a fault: what it left is told by the next load.
-        if self.files.has_all() {
-            return Ok(());
-        }
         self.write()
     }
 
@@ -225,6 +229,7 @@ impl<'a, R: Files> Keeper for FileKeeper<'a, R> {
         ensures cause { result ≡ Err KeeperRefusal.Fault → HasFailed self.old.failures self.new.failures }
         ensures count { self.old.failures ≤ self.new.failures }
         ensures lasts { OnOk result (file_texts self.new ≡ self.new.texts) }
+        ensures read { OnOk result (WereRead (file_texts self.old) self.old.calls self.new.calls) }
     {
         match self.load_files(alloc) {
             Ok(()) => copied(alloc, self.log()),

@@ -1,8 +1,8 @@
 //! The texts of a record in its files, over a device that may lose what it wasn't told to sync.
-ghost use Rattle.std.specs.Prelude.{◌≡◌, ◌≢◌, ◌<◌, ◌≤◌, ◌⊎◌, ◌++◌, ◌∷◌, ◌+◌, [], ℕ, List, true, false, length, take, IfOk, IfSome, OnOk, OnErr, IsErr, Decides, All};
+ghost use Rattle.std.specs.Prelude.{◌≡◌, ◌≢◌, ◌<◌, ◌≤◌, ◌⊎◌, ◌↔◌, ◌++◌, ◌∷◌, ◌+◌, [], ℕ, List, true, length, take, IfOk, IfSome, OnOk, OnErr, IsErr, IsTrue, Decides, All};
 ghost use Rattle.filekeeper.specs.Disks.{calls_of, Files, IsTidied, Leaves, MaySee};
 ghost use Rattle.filekeeper.specs.Framing.{framed, log_bytes, AreTextsOf, IsTold};
-ghost use Rattle.filekeeper.specs.Settled.{Clashes, HoldsOneOf, HoldsSome, HasRead, IsAddedTo, IsCut, IsSettled, IsTakenUp, StandsIn};
+ghost use Rattle.filekeeper.specs.Settled.{Clashes, HoldsOneOf, HoldsSome, HasRead, IsAddedTo, IsCut, IsSettled, IsTakenUp, StandsIn, WereRead};
 ghost use Rattle.saverecord.specs.Texts.{Texts, whole_alone};
 ghost use Rattle.filekeeper.specs.declared.device_call.DeviceCall.TheVariants.{WriteDraft, RenameDraft};
 
@@ -165,7 +165,7 @@ impl<D: Device> RecordFiles<D> {
 
     /// Whether no entry is gathered only.
     pub fn has_all(&self) -> bool
-        ensures { result ≡ true → how_many_last self.now ≡ length (texts_in self.now).entries }
+        ensures { IsTrue result ↔ (how_many_last self.now ≡ length (texts_in self.now).entries) }
     {
         self.lasting == self.log.entries().len()
     }
@@ -186,6 +186,8 @@ impl<D: Device> RecordFiles<D> {
         requires { how_many_last self.old < length (texts_in self.old).entries }
         ensures texts { (t : Texts) (entry : List ℕ) → texts_in self.old ≡ with_text entry t → texts_in self.new ≡ t }
         ensures lasts { how_many_last self.new ≡ how_many_last self.old }
+        ensures settled { is_settled self.new ≡ is_settled self.old }
+        ensures calls { calls_in self.new ≡ calls_in self.old }
     {
         self.log.pop();
     }
@@ -195,7 +197,8 @@ impl<D: Device> RecordFiles<D> {
         ensures ok { OnOk result ((how_many_last self.new ≡ length (texts_in self.new).entries) × (is_settled self.new ≡ true)) }
         ensures err { OnErr result (how_many_last self.new ≡ how_many_last self.old) }
         ensures texts { texts_in self.new ≡ texts_in self.old }
-        ensures unsettled { is_settled self.old ≡ false → calls_in self.new ≡ calls_in self.old }
+        ensures settled { OnOk result (is_settled self.old ≡ true) }
+        ensures unsettled { OnErr result ((self.new ≡ self.old) ⊎ (is_settled self.old ≡ true)) }
 
         // A crash at any moment leaves what lasted, and the first of the entries that were gathered.
         ensures any_moment { is_settled self.old ≡ true → Leaves (HoldsSome (lasting_in self.old) (gathered_in self.old)) (calls_in self.old) (calls_in self.new) }
@@ -270,7 +273,8 @@ impl<D: Device> RecordFiles<D> {
         ensures ok { OnOk result ((texts_in self.new ≡ whole_alone bytes.items) × (how_many_last self.new ≡ 0) × (is_settled self.new ≡ true)) }
         ensures err { OnErr result (((texts_in self.new ≡ texts_in self.old) × (how_many_last self.new ≡ how_many_last self.old))
             ⊎ ((texts_in self.new ≡ whole_alone bytes.items) × (how_many_last self.new ≡ 0))) }
-        ensures unsettled { is_settled self.old ≡ false → calls_in self.new ≡ calls_in self.old }
+        ensures settled { OnOk result (is_settled self.old ≡ true) }
+        ensures unsettled { OnErr result ((self.new ≡ self.old) ⊎ (is_settled self.old ≡ true)) }
 
         // Nothing is touched where other bytes have the name that entries follow.
         ensures clash { Clashes bytes.items (lasting_in self.old) → IsErr result × (self.new ≡ self.old) }
@@ -304,6 +308,7 @@ impl<D: Device> RecordFiles<D> {
     /// then.
     pub fn reload(&mut self, alloc: Global) -> io::Result<()>
         ensures ok { OnOk result (is_settled self.new ≡ true) }
+        ensures read { OnOk result (WereRead (lasting_in self.old) (calls_in self.old) (calls_in self.new)) }
         ensures texts { (texts_in self.new ≡ texts_in self.old) × (how_many_last self.new ≡ how_many_last self.old) }
 
         // A crash at any moment leaves what it might have left before, but for what stands behind the entries that last.
@@ -318,5 +323,19 @@ impl<D: Device> RecordFiles<D> {
         self.disk.tidy(self.len)?;
         self.settled = true;
         Ok(())
+    }
+
+    /// Has the files hold all texts, and reads them again. It is settled then.
+    pub(crate) fn load(&mut self, alloc: Global) -> io::Result<()>
+        ensures ok { OnOk result ((how_many_last self.new ≡ length (texts_in self.new).entries) × (is_settled self.new ≡ true)) }
+        ensures err { OnErr result ((how_many_last self.new ≡ how_many_last self.old) ⊎ (how_many_last self.new ≡ length (texts_in self.new).entries)) }
+        ensures texts { texts_in self.new ≡ texts_in self.old }
+        ensures read { OnOk result (WereRead (lasting_in self.old) (calls_in self.old) (calls_in self.new)) }
+    {
+        if self.settled {
+            self.sync()?;
+        }
+        self.reload(alloc)?;
+        self.sync()
     }
 }

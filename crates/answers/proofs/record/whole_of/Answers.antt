@@ -1,3 +1,5 @@
+use Rattle.std.proofs.Common.{inr, ap}
+use Rattle.std.specs.Result.{result_err}
 use Rattle.saverecord.proofs.LogLemmas.{read_alone}
 use Rattle.answers.proofs.record.whole_of.Goals as goal
 
@@ -8,4 +10,5 @@ returns-in-Ok-read-clause-kept c =
       log,
       c.in-Ok.ensures.texts,
       read_alone log bytes.field-0.items c.in-Ok-read.record c.in-Ok-read.ensures.kept bytes.ensures.again c.in-Ok-read.ensures.exact,
+      inr (ap result_err c.in-Ok-read.ensures.exact),
     )

@@ -49,6 +49,20 @@ returns-clause-any_moment g c =
     let there = rw (c.as_slice.ensures.value, c.as_slice-2.ensures.value) at (c.stands_in.ensures c.if-not-stands_in.false) in
     tidied_again old whole tail (lasting_in x) x.len x.lens there new (subst (λ cs. Leaves (IsTidied x.len cs) cs new) reads c.tidy.ensures.any_moment)
 
+pub returns-clause-read : goal.returns-clause-read
+returns-clause-read g c =
+    let x = c.args.self.now in
+    let whole = c.in_ok-whole.whole.items in
+    let tail = c.in_ok-tail.tail.items in
+    let reads = c.in_ok-tail.ensures.done ∙ ap (λ (cs : List Called). (ReadLog, tail) ∷ cs) c.in_ok-whole.ensures.done in (
+      whole,
+      tail,
+      [],
+      (SyncLog true, []) ∷ (Cut x.len true, []) ∷ (SyncNames true, []) ∷ [],
+      c.in_ok-tidy.ensures.done ∙ ap (λ (cs : List Called). (SyncLog true, []) ∷ (Cut x.len true, []) ∷ (SyncNames true, []) ∷ cs) reads,
+      rw (c.as_slice.ensures.value, c.as_slice-2.ensures.value) at (c.stands_in.ensures c.if-not-stands_in.false),
+    )
+
 pub invariant_of-self-3 : goal.invariant_of-self-3
 invariant_of-self-3 g c =
     let x = c.args.self.now in
