@@ -40,10 +40,10 @@ pub fn serve_node<S: Store, R: Read + Drop, W: Write>(
     writer: &mut W,
 ) -> io::Result<()>
     ensures served { OnOk result (IfSome (R.remaining reader) (λ text.
-        IsNodeServed S.kept started text (W.contents writer.old) (W.contents writer.new))) }
+        IsNodeServed S.kept S.last_life started text (W.contents writer.old) (W.contents writer.new))) }
     // So it is a node of protocol's processes, whatever lines come, and wherever it is killed and started again.
-    ensures process { ABatchIsARun S.kept }
-    ensures killed { AKillIsARun S.kept }
+    ensures process { ABatchIsARun S.kept S.last_life }
+    ensures killed { AKillIsARun S.kept S.last_life }
     ensures started { AStartIsARun S.kept S.last_life }
 {
     a_batch_is_a_run::<S>();
