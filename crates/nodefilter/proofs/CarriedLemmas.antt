@@ -44,6 +44,10 @@ same_kept : {S : Type 0} (kept : Kept S) (old new : Seen S) → new.node ≡ old
 same_kept kept old new node store sound d content is apart =
     rw store (sound d content (subst (λ (x : Node). x.store d ≡ Some content) node is) apart)
 
+pub not_true : (b : Bool) → not b ≡ true → b ≡ false
+not_true true is = absurd (cc is)
+not_true false is = refl
+
 -- a filter that is up stays sound
 pub stays_sound : {S : Type 0} (kept : Kept S) (c : Call) (old new : Seen S) (answer : Result NodeDone NodeRefusal) (fine : Bool)
     → Answers (node_answer old.me old.at old.node c) old.node new.node answer

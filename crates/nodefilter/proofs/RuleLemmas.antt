@@ -244,9 +244,9 @@ quiet p q messages lost old new same h = record {
   key_is = ap (λ f. f.key) same;
 }
 
-made_goes : {S : Type 0} (kept : Kept S) (p q : Processes) (messages : List Message) (lost : Bool) (c : Call) (answer : List ℕ) (old new : Seen S) → IsNumber NODES old.me → old.at.node ≡ old.me
-    → MayBeHeard q.written c → (f : Makes kept c old new answer) → Went_on p old.me old.node messages q → Goes p (messages ++ said_of lost (made_messages f)) old new
-made_goes kept p q messages lost c answer old new number itself may (Made done carries (inl written)) h =
+made_goes : {S : Type 0} (kept : Kept S) (last_life : S → ℕ) (p q : Processes) (messages : List Message) (lost : Bool) (c : Call) (answer : List ℕ) (old new : Seen S) → IsNumber NODES old.me → old.at.node ≡ old.me
+    → MayBeHeard q.written c → (f : Makes kept last_life c old new answer) → Went_on p old.me old.node messages q → Goes p (messages ++ said_of lost (made_messages f)) old new
+made_goes kept last_life p q messages lost c answer old new number itself may (Made done carries (inl written)) h =
     let result = call_done p q old.at old.me old.node new.node messages (said_of lost (sends_of new.down done)) c done number itself may carries.done h (are_said lost new.down done) in
     record {
       later = result.0;
@@ -255,7 +255,7 @@ made_goes kept p q messages lost c answer old new number itself may (Made done c
       at_is = ap (λ f. f.at) carries.same;
       key_is = ap (λ f. f.key) carries.same;
     }
-made_goes kept p q messages lost c answer old new number itself may (Made done carries (inr out)) h =
+made_goes kept last_life p q messages lost c answer old new number itself may (Made done carries (inr out)) h =
     let result = call_done p q old.at old.me old.node new.node messages (said_of lost []) c done number itself may carries.done h (none_said lost done) in
     record {
       later = result.0;
@@ -264,7 +264,7 @@ made_goes kept p q messages lost c answer old new number itself may (Made done c
       at_is = ap (λ f. f.at) carries.same;
       key_is = ap (λ f. f.key) carries.same;
     }
-made_goes kept p q messages lost c answer old new number itself may (Stopped same out) h = quiet p q messages lost old new same h
+made_goes kept last_life p q messages lost c answer old new number itself may (Stopped same out) h = quiet p q messages lost old new same h
 
 -- what is handed on is the line
 line_given : (limit : ℕ) (key line : List ℕ) (me : NodeId) (given : Result (List ℕ) Lost) (o : Order) → IsKept limit line given → AsksFor key me given o → Orders key me line o
@@ -283,41 +283,41 @@ may_be_heard key line me written o call.Resend heard asks is = tt
 may_be_heard key line me written o (call.Bring content) heard asks is = tt
 may_be_heard key line me written o (call.Forget digest) heard asks is = tt
 
-followed_goes : {S : Type 0} (kept : Kept S) (limit : ℕ) (p q : Processes) (messages : List Message) (lost : Bool) (line answer : List ℕ) (given : Result (List ℕ) Lost) (o : Order) (old new : Seen S)
+followed_goes : {S : Type 0} (kept : Kept S) (last_life : S → ℕ) (limit : ℕ) (p q : Processes) (messages : List Message) (lost : Bool) (line answer : List ℕ) (given : Result (List ℕ) Lost) (o : Order) (old new : Seen S)
     → IsNumber NODES old.me → old.at.node ≡ old.me → ((message : ToNode) → Orders old.key old.me line (order.Call (call.Receive message)) → In (to.ToNode message) q.written)
-    → IsKept limit line given → AsksFor old.key old.me given o → (f : Follows kept o old new answer) → Went_on p old.me old.node messages q → Goes p (messages ++ said_of lost (followed_messages f)) old new
-followed_goes kept limit p q messages lost line answer given o old new number itself heard is asks (Calls c call_is makes) h =
-    made_goes kept p q messages lost c answer old new number itself (may_be_heard old.key line old.me q.written o c heard (line_given limit old.key line old.me given o is asks) call_is) makes h
-followed_goes kept limit p q messages lost line answer given o old new number itself heard is asks (Misses file same text) h = quiet p q messages lost old new same h
-followed_goes kept limit p q messages lost line answer given o old new number itself heard is asks (Hands digest file o_is stored same text) h = quiet p q messages lost old new same h
-followed_goes kept limit p q messages lost line answer given o old new number itself heard is asks (Has_not digest file o_is none same text) h = quiet p q messages lost old new same h
-followed_goes kept limit p q messages lost line answer given o old new number itself heard is asks (Tells ask o_is same text) h = quiet p q messages lost old new same h
+    → IsKept limit line given → AsksFor old.key old.me given o → (f : Follows kept last_life o old new answer) → Went_on p old.me old.node messages q → Goes p (messages ++ said_of lost (followed_messages f)) old new
+followed_goes kept last_life limit p q messages lost line answer given o old new number itself heard is asks (Calls c call_is makes) h =
+    made_goes kept last_life p q messages lost c answer old new number itself (may_be_heard old.key line old.me q.written o c heard (line_given limit old.key line old.me given o is asks) call_is) makes h
+followed_goes kept last_life limit p q messages lost line answer given o old new number itself heard is asks (Misses file same text) h = quiet p q messages lost old new same h
+followed_goes kept last_life limit p q messages lost line answer given o old new number itself heard is asks (Hands digest file o_is stored same text) h = quiet p q messages lost old new same h
+followed_goes kept last_life limit p q messages lost line answer given o old new number itself heard is asks (Has_not digest file o_is none same text) h = quiet p q messages lost old new same h
+followed_goes kept last_life limit p q messages lost line answer given o old new number itself heard is asks (Tells ask o_is same text) h = quiet p q messages lost old new same h
 
-line_goes : {S : Type 0} (kept : Kept S) (limit : ℕ) (p q : Processes) (messages : List Message) (lost : Bool) (line answer : List ℕ) (given : Result (List ℕ) Lost) (old new : Seen S)
+line_goes : {S : Type 0} (kept : Kept S) (last_life : S → ℕ) (limit : ℕ) (p q : Processes) (messages : List Message) (lost : Bool) (line answer : List ℕ) (given : Result (List ℕ) Lost) (old new : Seen S)
     → IsNumber NODES old.me → old.at.node ≡ old.me → ((message : ToNode) → Orders old.key old.me line (order.Call (call.Receive message)) → In (to.ToNode message) q.written)
-    → IsKept limit line given → (f : Filters kept given answer old new) → Went_on p old.me old.node messages q → Goes p (messages ++ said_of lost (line_messages f)) old new
-line_goes kept limit p q messages lost line answer given old new number itself heard is (Is_down down same text) h = quiet p q messages lost old new same h
-line_goes kept limit p q messages lost line answer given old new number itself heard is (Does o up asks follows) h =
-    followed_goes kept limit p q messages lost line answer given o old new number itself heard is asks follows h
-line_goes kept limit p q messages lost line answer given old new number itself heard is (Drops why up nothing_asked same text) h = quiet p q messages lost old new same h
+    → IsKept limit line given → (f : Filters kept last_life given answer old new) → Went_on p old.me old.node messages q → Goes p (messages ++ said_of lost (line_messages f)) old new
+line_goes kept last_life limit p q messages lost line answer given old new number itself heard is (Is_down down same text) h = quiet p q messages lost old new same h
+line_goes kept last_life limit p q messages lost line answer given old new number itself heard is (Does o up asks follows) h =
+    followed_goes kept last_life limit p q messages lost line answer given o old new number itself heard is asks follows h
+line_goes kept last_life limit p q messages lost line answer given old new number itself heard is (Drops why up nothing_asked same text) h = quiet p q messages lost old new same h
 
 -- all lines of a batch
-lines_go : {S : Type 0} (kept : Kept S) (limit : ℕ) (p q : Processes) (messages : List Message) (lost : Bool) (lines answers : List (List ℕ)) (old new : NodeFilter S)
+lines_go : {S : Type 0} (kept : Kept S) (last_life : S → ℕ) (limit : ℕ) (p q : Processes) (messages : List Message) (lost : Bool) (lines answers : List (List ℕ)) (old new : NodeFilter S)
     → IsNumber NODES (seen old).me → (seen old).at.node ≡ (seen old).me → AreOfTheFarm (seen old).key (seen old).me lines p.written
-    → (h : served.Answers (node_steps kept) limit old lines answers new) → Went_on p (seen old).me (seen old).node messages q
-    → (later : Processes) × Went_on p (seen old).me (seen new).node (messages ++ said_of lost (messages_of kept limit old new lines answers h)) later
-lines_go kept limit p q messages lost [] [] old new number itself heard h w =
+    → (h : served.Answers (node_steps kept last_life) limit old lines answers new) → Went_on p (seen old).me (seen old).node messages q
+    → (later : Processes) × Went_on p (seen old).me (seen new).node (messages ++ said_of lost (messages_of kept last_life limit old new lines answers h)) later
+lines_go kept last_life limit p q messages lost [] [] old new number itself heard h w =
     (q, silent p q (seen old).me (seen new).node messages (said_of lost []) (none_more lost) (moved p q (seen old).me (seen old).node (seen new).node messages (ap (λ f. (seen f).node) (sym h)) w))
-lines_go kept limit p q messages lost [] (a ∷ answers) old new number itself heard h w = absurd h
-lines_go kept limit p q messages lost (l ∷ lines) [] old new number itself heard h w = absurd h
-lines_go kept limit p q messages lost (l ∷ lines) (a ∷ answers) old new number itself heard h w =
+lines_go kept last_life limit p q messages lost [] (a ∷ answers) old new number itself heard h w = absurd h
+lines_go kept last_life limit p q messages lost (l ∷ lines) [] old new number itself heard h w = absurd h
+lines_go kept last_life limit p q messages lost (l ∷ lines) (a ∷ answers) old new number itself heard h w =
     let mid = h.1 in
     let said : List Message = said_of lost (line_messages h.3) in
-    let more : List Message = messages_of kept limit mid new lines answers h.4 in
-    let first = line_goes kept limit p q messages lost l a h.0 (seen old) (seen mid) number itself
+    let more : List Message = messages_of kept last_life limit mid new lines answers h.4 in
+    let first = line_goes kept last_life limit p q messages lost l a h.0 (seen old) (seen mid) number itself
     (λ m asks. subst (In (to.ToNode m)) (sym w.written) (still_in (to.ToNode m) p.written messages (heard l m (inl refl) asks))) h.2 h.3 w in
     let me_is = first.me_is in
-    let rest = lines_go kept limit p first.later (messages ++ said) lost lines answers mid new (subst (IsNumber NODES) (sym me_is) number)
+    let rest = lines_go kept last_life limit p first.later (messages ++ said) lost lines answers mid new (subst (IsNumber NODES) (sym me_is) number)
     (ap (λ at. at.node) first.at_is ∙ itself ∙ sym me_is)
     (λ line m i asks. heard line m (inr i) (subst (λ k. Orders k (seen old).me line (order.Call (call.Receive m))) first.key_is (subst (λ n. Orders (seen mid).key n line (order.Call (call.Receive m))) me_is asks)))
     h.4 (subst (λ n. Went_on p n (seen mid).node (messages ++ said) first.later) (sym me_is) first.went_on) in (
@@ -332,57 +332,57 @@ answer_says true key it result answer is = nothing_said key answer
 answer_says false key it (Err e) answer is = nothing_said key answer
 answer_says false key it (Ok done) answer is = record { sent = is.sent; notes = note_line it done.note; sealed = is.sends; text_is = is.text_is }
 
-made_says : {S : Type 0} (kept : Kept S) (c : Call) (answer : List ℕ) (old new : Seen S) → (f : Makes kept c old new answer) → Says old.key (made_messages f) answer
-made_says kept c answer old new (Made done carries (inl written)) = answer_says new.down old.key (about_call c) done answer written
-made_says kept c answer old new (Made done carries (inr out)) = nothing_said old.key answer
-made_says kept c answer old new (Stopped same out) = nothing_said old.key answer
+made_says : {S : Type 0} (kept : Kept S) (last_life : S → ℕ) (c : Call) (answer : List ℕ) (old new : Seen S) → (f : Makes kept last_life c old new answer) → Says old.key (made_messages f) answer
+made_says kept last_life c answer old new (Made done carries (inl written)) = answer_says new.down old.key (about_call c) done answer written
+made_says kept last_life c answer old new (Made done carries (inr out)) = nothing_said old.key answer
+made_says kept last_life c answer old new (Stopped same out) = nothing_said old.key answer
 
-followed_says : {S : Type 0} (kept : Kept S) (o : Order) (answer : List ℕ) (old new : Seen S) → (f : Follows kept o old new answer) → Says old.key (followed_messages f) answer
-followed_says kept o answer old new (Calls c is makes) = made_says kept c answer old new makes
-followed_says kept o answer old new (Misses file same text) = nothing_said old.key answer
-followed_says kept o answer old new (Hands digest file is stored same text) = nothing_said old.key answer
-followed_says kept o answer old new (Has_not digest file is none same text) = nothing_said old.key answer
-followed_says kept o answer old new (Tells ask is same text) = nothing_said old.key answer
+followed_says : {S : Type 0} (kept : Kept S) (last_life : S → ℕ) (o : Order) (answer : List ℕ) (old new : Seen S) → (f : Follows kept last_life o old new answer) → Says old.key (followed_messages f) answer
+followed_says kept last_life o answer old new (Calls c is makes) = made_says kept last_life c answer old new makes
+followed_says kept last_life o answer old new (Misses file same text) = nothing_said old.key answer
+followed_says kept last_life o answer old new (Hands digest file is stored same text) = nothing_said old.key answer
+followed_says kept last_life o answer old new (Has_not digest file is none same text) = nothing_said old.key answer
+followed_says kept last_life o answer old new (Tells ask is same text) = nothing_said old.key answer
 
-line_says : {S : Type 0} (kept : Kept S) (given : Result (List ℕ) Lost) (answer : List ℕ) (old new : Seen S) → (f : Filters kept given answer old new) → Says old.key (line_messages f) answer
-line_says kept given answer old new (Is_down down same text) = nothing_said old.key answer
-line_says kept given answer old new (Does o up asks follows) = followed_says kept o answer old new follows
-line_says kept given answer old new (Drops why up nothing_asked same text) = nothing_said old.key answer
+line_says : {S : Type 0} (kept : Kept S) (last_life : S → ℕ) (given : Result (List ℕ) Lost) (answer : List ℕ) (old new : Seen S) → (f : Filters kept last_life given answer old new) → Says old.key (line_messages f) answer
+line_says kept last_life given answer old new (Is_down down same text) = nothing_said old.key answer
+line_says kept last_life given answer old new (Does o up asks follows) = followed_says kept last_life o answer old new follows
+line_says kept last_life given answer old new (Drops why up nothing_asked same text) = nothing_said old.key answer
 
-key_stays : {S : Type 0} (kept : Kept S) (given : Result (List ℕ) Lost) (answer : List ℕ) (old new : Seen S) → Filters kept given answer old new → new.key ≡ old.key
-key_stays kept given answer old new (Is_down down same text) = ap (λ f. f.key) same
-key_stays kept given answer old new (Does o up asks (Calls c is (Made done carries text))) = ap (λ f. f.key) carries.same
-key_stays kept given answer old new (Does o up asks (Calls c is (Stopped same out))) = ap (λ f. f.key) same
-key_stays kept given answer old new (Does o up asks (Misses file same text)) = ap (λ f. f.key) same
-key_stays kept given answer old new (Does o up asks (Hands digest file is stored same text)) = ap (λ f. f.key) same
-key_stays kept given answer old new (Does o up asks (Has_not digest file is none same text)) = ap (λ f. f.key) same
-key_stays kept given answer old new (Does o up asks (Tells ask is same text)) = ap (λ f. f.key) same
-key_stays kept given answer old new (Drops why up nothing_asked same text) = ap (λ f. f.key) same
+key_stays : {S : Type 0} (kept : Kept S) (last_life : S → ℕ) (given : Result (List ℕ) Lost) (answer : List ℕ) (old new : Seen S) → Filters kept last_life given answer old new → new.key ≡ old.key
+key_stays kept last_life given answer old new (Is_down down same text) = ap (λ f. f.key) same
+key_stays kept last_life given answer old new (Does o up asks (Calls c is (Made done carries text))) = ap (λ f. f.key) carries.same
+key_stays kept last_life given answer old new (Does o up asks (Calls c is (Stopped same out))) = ap (λ f. f.key) same
+key_stays kept last_life given answer old new (Does o up asks (Misses file same text)) = ap (λ f. f.key) same
+key_stays kept last_life given answer old new (Does o up asks (Hands digest file is stored same text)) = ap (λ f. f.key) same
+key_stays kept last_life given answer old new (Does o up asks (Has_not digest file is none same text)) = ap (λ f. f.key) same
+key_stays kept last_life given answer old new (Does o up asks (Tells ask is same text)) = ap (λ f. f.key) same
+key_stays kept last_life given answer old new (Drops why up nothing_asked same text) = ap (λ f. f.key) same
 
-lines_say : {S : Type 0} (kept : Kept S) (limit : ℕ) (lines answers : List (List ℕ)) (old new : NodeFilter S) → (h : served.Answers (node_steps kept) limit old lines answers new)
-    → Says_all (seen old).key (messages_of kept limit old new lines answers h) (joined answers)
-lines_say kept limit [] [] old new h = Says_none
-lines_say kept limit [] (a ∷ answers) old new h = absurd h
-lines_say kept limit (l ∷ lines) [] old new h = absurd h
-lines_say kept limit (l ∷ lines) (a ∷ answers) old new h =
-    let rest = lines_say kept limit lines answers h.1 new h.4 in
-    Says_more (line_messages h.3) (messages_of kept limit h.1 new lines answers h.4) a (joined answers) (line_says kept h.0 a (seen old) (seen h.1) h.3)
-    (subst (λ k. Says_all k (messages_of kept limit h.1 new lines answers h.4) (joined answers)) (key_stays kept h.0 a (seen old) (seen h.1) h.3) rest)
+lines_say : {S : Type 0} (kept : Kept S) (last_life : S → ℕ) (limit : ℕ) (lines answers : List (List ℕ)) (old new : NodeFilter S) → (h : served.Answers (node_steps kept last_life) limit old lines answers new)
+    → Says_all (seen old).key (messages_of kept last_life limit old new lines answers h) (joined answers)
+lines_say kept last_life limit [] [] old new h = Says_none
+lines_say kept last_life limit [] (a ∷ answers) old new h = absurd h
+lines_say kept last_life limit (l ∷ lines) [] old new h = absurd h
+lines_say kept last_life limit (l ∷ lines) (a ∷ answers) old new h =
+    let rest = lines_say kept last_life limit lines answers h.1 new h.4 in
+    Says_more (line_messages h.3) (messages_of kept last_life limit h.1 new lines answers h.4) a (joined answers) (line_says kept last_life h.0 a (seen old) (seen h.1) h.3)
+    (subst (λ k. Says_all k (messages_of kept last_life limit h.1 new lines answers h.4) (joined answers)) (key_stays kept last_life h.0 a (seen old) (seen h.1) h.3) rest)
 
 -- ---- batches
 
-pub a_batch_is_a_run : {S : Type 0} (kept : Kept S) → ABatchIsARun kept
-a_batch_is_a_run kept limit lines text old new p is heard b =
-    let said : List Message = messages_of kept limit old b.answered_to lines b.answers b.answered in
-    let goes = lines_go kept limit p p [] false lines b.answers old b.answered_to is.number is.itself heard b.answered (stays p (seen old).me (seen old).node is.node) in
+pub a_batch_is_a_run : {S : Type 0} (kept : Kept S) (last_life : S → ℕ) → ABatchIsARun kept last_life
+a_batch_is_a_run kept last_life limit lines text old new p is heard b =
+    let said : List Message = messages_of kept last_life limit old b.answered_to lines b.answers b.answered in
+    let goes = lines_go kept last_life limit p p [] false lines b.answers old b.answered_to is.number is.itself heard b.answered (stays p (seen old).me (seen old).node is.node) in
     let same : new ≡ b.answered_to = b.made.1 in (
       arrives p goes.0 (seen old).me (seen new).node said (moved p goes.0 (seen old).me (seen b.answered_to).node (seen new).node said (ap (λ f. (seen f).node) same) goes.1),
-      subst (Says_all (seen old).key said) (sym (b.text_is ∙ ap (λ s. settled_text s b.answers) b.made.0)) (lines_say kept limit lines b.answers old b.answered_to b.answered),
+      subst (Says_all (seen old).key said) (sym (b.text_is ∙ ap (λ s. settled_text s b.answers) b.made.0)) (lines_say kept last_life limit lines b.answers old b.answered_to b.answered),
     )
 
-pub a_kill_is_a_run : {S : Type 0} (kept : Kept S) → AKillIsARun kept
-a_kill_is_a_run kept limit lines answers old new p is heard h =
-    let goes = lines_go kept limit p p [] true lines answers old new is.number is.itself heard h (stays p (seen old).me (seen old).node is.node) in
+pub a_kill_is_a_run : {S : Type 0} (kept : Kept S) (last_life : S → ℕ) → AKillIsARun kept last_life
+a_kill_is_a_run kept last_life limit lines answers old new p is heard h =
+    let goes = lines_go kept last_life limit p p [] true lines answers old new is.number is.itself heard h (stays p (seen old).me (seen old).node is.node) in
     arrives p goes.0 (seen old).me (seen new).node [] goes.1
 
 -- ---- the next life

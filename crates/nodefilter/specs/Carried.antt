@@ -1,5 +1,6 @@
 -- What a node does of a call (this project's own).
-use Rattle.std.specs.Prelude.{◌≡◌, ◌≤◌, ◌⊎◌, ℕ, true, List, [], ◌∷◌, map, Option, Some, None, Result}
+use Rattle.std.specs.Prelude.{◌≡◌, ◌≤◌, ◌⊎◌, ℕ, true, List, [], ◌∷◌, map, Option, Some, None, is_some, Result, is_ok}
+use Rattle.std.specs.List.{Contains}
 use Rattle.names.specs.Contents.{content_digest}
 use Rattle.farm_base.specs.declared.message.FromCoord.{FromCoord}
 use Rattle.farm_base.specs.declared.message.FromCoord.TheVariants.{Granted, Committed, Fenced, Denied, Recall}
@@ -60,6 +61,10 @@ forgotten_by call.Resend = None
 forgotten_by (call.Bring content) = None
 forgotten_by (call.Forget digest) = Some digest
 
+-- of these digests there is one whose content is stored
+abbrev pub SomeStored : (Digest → Option (List ℕ)) → List Digest → Type 0
+SomeStored store ds = (d : Digest) × Contains ds d × (is_some (store d) ≡ true)
+
 -- what the coordinator's message is about, where the note leaves it out
 abbrev pub about_told : FromCoord → About
 about_told (Granted grant) = about.Nothing
@@ -83,11 +88,15 @@ about_call (call.Bring content) = about.Nothing
 about_call (call.Forget digest) = about.Nothing
 
 -- the node does what the rules make of the call, and what it stored is kept then. If it can't be, the filter is down
-pub record CarriesOut {S : Type 0} (kept : Kept S) (call : Call) (old new : Seen S)
+pub record CarriesOut {S : Type 0} (kept : Kept S) (last_life : S → ℕ) (call : Call) (old new : Seen S)
     (answer : Result NodeDone NodeRefusal) : Type 0 where
   pub done : Answers (node_answer old.me old.at old.node call) old.node new.node answer
   pub same : new ≡ record old { node = new.node; forgets = new.forgets; store = new.store; down = new.down }
   -- an ask is forgotten only where 1,024 of greater numbers are over
   pub late : (a : ℕ) → new.forgets a ≡ true → (old.forgets a ≡ true) ⊎ (1024 ≤ endings_after a new.node.asks)
   pub others : StayKept kept (forgotten_by call) old.store new.store
+  -- no life but the one that the process began is kept
+  pub life : last_life new.store ≡ last_life old.store
+  -- the filter goes down only at a call that is done, and that brought a content which the node stores
+  pub fails : new.down ≡ true → (is_ok answer ≡ true) × SomeStored new.node.store (brought_by call)
   pub sound : IsSound kept old → IsSound kept new

@@ -1,5 +1,5 @@
 -- How a node's filter answers a line (this project's own).
-use Rattle.std.specs.Prelude.{◌≡◌, ℕ, Bool, true, false, List, map, codes, None, is_some, option_map, Result}
+use Rattle.std.specs.Prelude.{◌≡◌, ◌≢◌, ℕ, Bool, true, false, List, [], map, codes, None, is_some, option_map, Result}
 use Rattle.names.specs.declared.digest.Digest.{Digest}
 use Rattle.farm_base.specs.declared.left.Left.{Left}
 use Rattle.names.specs.declared.number.Ask.{Ask}
@@ -52,7 +52,7 @@ pub data IsCallOf : Order → Call → Type 0 where
 -- the order needs a file
 abbrev pub HasFile : Order → Type 0
 HasFile (order.Call call) = ⊥
-HasFile (order.Finish ticket files) = Unit {0}
+HasFile (order.Finish ticket files) = files ≢ []
 HasFile (order.Blob file) = Unit {0}
 HasFile (order.Content digest file) = Unit {0}
 HasFile (order.State ask) = ⊥
@@ -63,38 +63,38 @@ IsAnswered true key it answer text = text ≡ store_fault
 IsAnswered false key it answer text = IsWritten key it answer text
 
 -- a call is made, or memory runs out before it
-pub data Makes {S : Type 0} (kept : Kept S) (call : Call) (old new : Seen S) (answer : List ℕ) : Type 0 where
-  Made : (done : Result NodeDone NodeRefusal) → CarriesOut kept call old new done
+pub data Makes {S : Type 0} (kept : Kept S) (last_life : S → ℕ) (call : Call) (old new : Seen S) (answer : List ℕ) : Type 0 where
+  Made : (done : Result NodeDone NodeRefusal) → CarriesOut kept last_life call old new done
       → OrLost (IsAnswered new.down old.key (about_call call) done) answer
-      → Makes kept call old new answer
-  Stopped : new ≡ old → answer ≡ out_of_memory → Makes kept call old new answer
+      → Makes kept last_life call old new answer
+  Stopped : new ≡ old → answer ≡ out_of_memory → Makes kept last_life call old new answer
 
 -- what comes of an order
-pub data Follows {S : Type 0} (kept : Kept S) (o : Order) (old new : Seen S) (answer : List ℕ) : Type 0 where
-  Calls : (call : Call) → IsCallOf o call → Makes kept call old new answer → Follows kept o old new answer
+pub data Follows {S : Type 0} (kept : Kept S) (last_life : S → ℕ) (o : Order) (old new : Seen S) (answer : List ℕ) : Type 0 where
+  Calls : (call : Call) → IsCallOf o call → Makes kept last_life call old new answer → Follows kept last_life o old new answer
   -- a file can't be used, or memory runs out
-  Misses : HasFile o → new ≡ old → OrLost (λ text. text ≡ file_fault) answer → Follows kept o old new answer
+  Misses : HasFile o → new ≡ old → OrLost (λ text. text ≡ file_fault) answer → Follows kept last_life o old new answer
   -- the content of this digest is put in the file
   Hands : (digest : Digest) (file : List ℕ) → o ≡ order.Content digest file → is_some (old.node.store digest) ≡ true
       → new ≡ old
-      → OrLost (λ text. text ≡ content_line digest) answer → Follows kept o old new answer
+      → OrLost (λ text. text ≡ content_line digest) answer → Follows kept last_life o old new answer
   -- it isn't stored here
   Has_not : (digest : Digest) (file : List ℕ) → o ≡ order.Content digest file → old.node.store digest ≡ None → new ≡ old
-      → OrLost (λ text. text ≡ no_content) answer → Follows kept o old new answer
+      → OrLost (λ text. text ≡ no_content) answer → Follows kept last_life o old new answer
   Tells : (ask : Ask) → o ≡ order.State ask → new ≡ old
       → OrLost (λ text. text ≡ noted (state_text ask (option_map (told_unless (old.forgets ask.0)) (nth old.node.asks ask.0)))) answer
-      → Follows kept o old new answer
+      → Follows kept last_life o old new answer
 
 -- a line is answered
-pub data Filters {S : Type 0} (kept : Kept S) (given : Result (List ℕ) Lost) (answer : List ℕ)
+pub data Filters {S : Type 0} (kept : Kept S) (last_life : S → ℕ) (given : Result (List ℕ) Lost) (answer : List ℕ)
     (old new : Seen S) : Type 0 where
   -- since a content could not be kept nothing is done, until the process starts again
-  Is_down : old.down ≡ true → new ≡ old → OrLost (λ text. text ≡ store_fault) answer → Filters kept given answer old new
-  Does : (o : Order) → old.down ≡ false → AsksFor old.key old.me given o → Follows kept o old new answer
-      → Filters kept given answer old new
+  Is_down : old.down ≡ true → new ≡ old → OrLost (λ text. text ≡ store_fault) answer → Filters kept last_life given answer old new
+  Does : (o : Order) → old.down ≡ false → AsksFor old.key old.me given o → Follows kept last_life o old new answer
+      → Filters kept last_life given answer old new
   Drops : (why : Unread) → old.down ≡ false → AsksNothing old.key old.me given why → new ≡ old
       → OrLost (λ text. text ≡ unread_line why) answer
-      → Filters kept given answer old new
+      → Filters kept last_life given answer old new
 
 -- what was answered lasts: contents and the life are kept before a line is answered
 abbrev pub IsSettled : {S : Type 0} → S → Settled → S → Type 0

@@ -51,8 +51,8 @@ abbrev pub with_node : Processes → NodeId → Node → List Message → Proces
 with_node p me node messages = record p { nodes = put me.0 node p.nodes; written = p.written ++ messages }
 
 -- a step of the filter
-abbrev pub node_steps : {S : Type 0} → Kept S → Steps (NodeFilter S)
-node_steps kept old given answer new = Filters kept given answer (seen old) (seen new)
+abbrev pub node_steps : {S : Type 0} → Kept S → (S → ℕ) → Steps (NodeFilter S)
+node_steps kept last_life old given answer new = Filters kept last_life given answer (seen old) (seen new)
 
 -- ---- the messages of what is written
 
@@ -62,14 +62,14 @@ sends_of true answer = []
 sends_of false (Ok done) = done.sends
 sends_of false (Err refusal) = []
 
-abbrev pub made_messages : {S : Type 0} {kept : Kept S} {call : Call} {old new : Seen S} {answer : List ℕ}
-    → Makes kept call old new answer → List Message
-made_messages {S} {kept} {call} {old} {new} {answer} (Made done carries (inl written)) = sends_of new.down done
-made_messages {S} {kept} {call} {old} {new} {answer} (Made done carries (inr lost)) = []
-made_messages {S} {kept} {call} {old} {new} {answer} (Stopped same out) = []
+abbrev pub made_messages : {S : Type 0} {kept : Kept S} {last_life : S → ℕ} {call : Call} {old new : Seen S} {answer : List ℕ}
+    → Makes kept last_life call old new answer → List Message
+made_messages {S} {kept} {last_life} {call} {old} {new} {answer} (Made done carries (inl written)) = sends_of new.down done
+made_messages {S} {kept} {last_life} {call} {old} {new} {answer} (Made done carries (inr lost)) = []
+made_messages {S} {kept} {last_life} {call} {old} {new} {answer} (Stopped same out) = []
 
-abbrev pub followed_messages : {S : Type 0} {kept : Kept S} {o : Order} {old new : Seen S} {answer : List ℕ}
-    → Follows kept o old new answer → List Message
+abbrev pub followed_messages : {S : Type 0} {kept : Kept S} {last_life : S → ℕ} {o : Order} {old new : Seen S} {answer : List ℕ}
+    → Follows kept last_life o old new answer → List Message
 followed_messages (Calls call is makes) = made_messages makes
 followed_messages (Misses file same text) = []
 followed_messages (Hands digest file is stored same text) = []
@@ -77,49 +77,49 @@ followed_messages (Has_not digest file is none same text) = []
 followed_messages (Tells ask is same text) = []
 
 -- those of a line's answer
-abbrev pub line_messages : {S : Type 0} {kept : Kept S} {given : Result (List ℕ) Lost} {answer : List ℕ}
-    {old new : Seen S} → Filters kept given answer old new → List Message
+abbrev pub line_messages : {S : Type 0} {kept : Kept S} {last_life : S → ℕ} {given : Result (List ℕ) Lost} {answer : List ℕ}
+    {old new : Seen S} → Filters kept last_life given answer old new → List Message
 line_messages (Is_down down same text) = []
 line_messages (Does o up asks follows) = followed_messages follows
 line_messages (Drops why up nothing_asked same text) = []
 
 -- those of the answers of some lines
-abbrev pub messages_of : {S : Type 0} (kept : Kept S) (limit : ℕ) (old new : NodeFilter S)
+abbrev pub messages_of : {S : Type 0} (kept : Kept S) (last_life : S → ℕ) (limit : ℕ) (old new : NodeFilter S)
     (lines answers : List (List ℕ))
-    → Answers (node_steps kept) limit old lines answers new → List Message
-messages_of kept limit old new [] [] h = []
-messages_of kept limit old new [] (answer ∷ answers) h = []
-messages_of kept limit old new (line ∷ lines) [] h = []
-messages_of kept limit old new (line ∷ lines) (answer ∷ answers) h =
-    line_messages h.3 ++ messages_of kept limit h.1 new lines answers h.4
+    → Answers (node_steps kept last_life) limit old lines answers new → List Message
+messages_of kept last_life limit old new [] [] h = []
+messages_of kept last_life limit old new [] (answer ∷ answers) h = []
+messages_of kept last_life limit old new (line ∷ lines) [] h = []
+messages_of kept last_life limit old new (line ∷ lines) (answer ∷ answers) h =
+    line_messages h.3 ++ messages_of kept last_life limit h.1 new lines answers h.4
 
 -- those of lines that were answered together
-abbrev pub batch_messages : {S : Type 0} (kept : Kept S) (limit : ℕ) (lines : List (List ℕ)) (text : List ℕ)
+abbrev pub batch_messages : {S : Type 0} (kept : Kept S) (last_life : S → ℕ) (limit : ℕ) (lines : List (List ℕ)) (text : List ℕ)
     (old new : NodeFilter S)
-    → Batch (node_steps kept) IsSettled limit lines text old new → List Message
-batch_messages kept limit lines text old new b = messages_of kept limit old b.answered_to lines b.answers b.answered
+    → Batch (node_steps kept last_life) IsSettled limit lines text old new → List Message
+batch_messages kept last_life limit lines text old new b = messages_of kept last_life limit old b.answered_to lines b.answers b.answered
 
 -- ---- the rules
 
 -- what a node's filter does with lines that come together a node of the processes may do, and what it writes that may
 -- write
-abbrev pub ABatchIsARun : {S : Type 0} → Kept S → Type 0
-ABatchIsARun {S} kept =
+abbrev pub ABatchIsARun : {S : Type 0} → Kept S → (S → ℕ) → Type 0
+ABatchIsARun {S} kept last_life =
     (limit : ℕ) (lines : List (List ℕ)) (text : List ℕ) (old new : NodeFilter S) (p : Processes)
     → IsNodeOf p (seen old) → AreOfTheFarm (seen old).key (seen old).me lines p.written
-    → (b : Batch (node_steps kept) IsSettled limit lines text old new) →
-    let messages : List Message = batch_messages kept limit lines text old new b in
+    → (b : Batch (node_steps kept last_life) IsSettled limit lines text old new) →
+    let messages : List Message = batch_messages kept last_life limit lines text old new b in
     Runs content_digest farm_limits NODES p (with_node p (seen old).me (seen new).node messages)
     × Says_all (seen old).key messages text
 
 -- where the filter is killed amid a batch, of which it answered these lines and wrote nothing, the rules let the node
 -- come as far, and write as little. Its asks are as they were until its next life begins, since an execution may
 -- outlast its process
-abbrev pub AKillIsARun : {S : Type 0} → Kept S → Type 0
-AKillIsARun {S} kept =
+abbrev pub AKillIsARun : {S : Type 0} → Kept S → (S → ℕ) → Type 0
+AKillIsARun {S} kept last_life =
     (limit : ℕ) (lines answers : List (List ℕ)) (old new : NodeFilter S) (p : Processes)
     → IsNodeOf p (seen old) → AreOfTheFarm (seen old).key (seen old).me lines p.written
-    → Answers (node_steps kept) limit old lines answers new
+    → Answers (node_steps kept last_life) limit old lines answers new
     → Runs content_digest farm_limits NODES p (with_node p (seen old).me (seen new).node [])
 
 -- what a process begins from is what the node of the processes has: a life that isn't below its last one, and of its

@@ -4,7 +4,7 @@ ghost use Rattle.names.specs.Contents.{content_digest};
 ghost use Rattle.nodeasks.specs.Rows.{endings_after};
 ghost use Rattle.nodecore.specs.Shown.{forgets, shown, place, Answers};
 ghost use Rattle.nodelines.specs.declared.order.Call.{Call};
-ghost use Rattle.nodefilter.specs.Carried.{node_answer, brought_by, forgotten_by, about_told, about_call, CarriesOut};
+ghost use Rattle.nodefilter.specs.Carried.{node_answer, brought_by, forgotten_by, about_told, about_call, SomeStored, CarriesOut};
 ghost use Rattle.nodefilter.specs.States.{seen};
 ghost use Rattle.nodestore.specs.Stores.{StayKept, AllKept};
 
@@ -155,7 +155,8 @@ fn forgotten_by(call: &Call) -> Option<Digest>
 
 /// Keeps a content no longer, if there is one that is to go.
 fn drop_kept<S: Store>(store: &mut S, gone: Option<Digest>)
-    ensures { StayKept S.kept gone store.old store.new }
+    ensures others { StayKept S.kept gone store.old store.new }
+    ensures life { S.last_life store.new ≡ S.last_life store.old }
 {
     if let Some(digest) = gone {
         store.forget(digest);
@@ -165,7 +166,9 @@ fn drop_kept<S: Store>(store: &mut S, gone: Option<Digest>)
 /// Keeps those of these contents that the node stores.
 fn keep_each<S: Store>(store: &mut S, core: &NodeCore, digests: &[Digest]) -> Result<(), StoreFault>
     ensures kept { OnOk result (AllKept S.kept (shown core.now).store digests.now store.new) }
+    ensures fails { OnErr result (SomeStored (shown core.now).store digests.now) }
     ensures others { StayKept S.kept None store.old store.new }
+    ensures life { S.last_life store.new ≡ S.last_life store.old }
 {
     for digest in digests {
         if let Some(content) = core.content(digest) {
@@ -184,6 +187,8 @@ fn keep_changes<S: Store>(
     done: bool,
 ) -> bool
     ensures others { StayKept S.kept gone store.old store.new }
+    ensures life { S.last_life store.new ≡ S.last_life store.old }
+    ensures fails { result ≡ false → (done ≡ true) × SomeStored (shown core.now).store brought.now }
     ensures kept { result ≡ true → done ≡ true → AllKept S.kept (shown core.now).store brought.now store.new }
     ensures idle { done ≡ false → (result ≡ true) × (store.new ≡ store.old) }
 {
@@ -201,7 +206,7 @@ pub(crate) fn carry_out<S: Store>(
     call: Call,
 ) -> Result<Carried, AllocError>
     requires { filter.old.down ≡ false }
-    ensures done { IfOk result (λ carried. CarriesOut S.kept call (seen filter.old) (seen filter.new) carried.answer) }
+    ensures done { IfOk result (λ carried. CarriesOut S.kept S.last_life call (seen filter.old) (seen filter.new) carried.answer) }
     ensures about { IfOk result (λ carried. carried.about ≡ about_call call) }
     ensures stopped { OnErr result (seen filter.new ≡ seen filter.old) }
 {

@@ -1,5 +1,5 @@
 //! A node as a process that answers lines.
-ghost use Rattle.std.specs.Prelude.{◌≡◌, false, IfOk};
+ghost use Rattle.std.specs.Prelude.{◌≡◌, [], true, false, IfOk, is_ok};
 ghost use Rattle.std.specs.String.{string_bytes};
 ghost use Rattle.services.specs.Served.{answer_text, OrLost};
 ghost use Rattle.nodelines.specs.declared.order.Order.TheVariants as order;
@@ -63,7 +63,7 @@ fn make<S: Store>(
     call: Call,
 ) -> Result<String, AllocError>
     requires { filter.old.down ≡ false }
-    ensures { Makes S.kept call (seen filter.old) (seen filter.new) (answer_text result) }
+    ensures { Makes S.kept S.last_life call (seen filter.old) (seen filter.new) (answer_text result) }
 {
     let carried = carry_out(filter, alloc, call)?;
     if filter.down {
@@ -88,7 +88,8 @@ fn lefts_in<S: Store>(
     store: &S,
     files: &[LeftFile],
 ) -> Result<Items<Left>, FileFault>
-    ensures { IfOk result (AreLeft files.now) }
+    ensures lefts { IfOk result (AreLeft files.now) }
+    ensures fails { files.now ≡ [] → is_ok result ≡ true }
 {
     let mut lefts = Vec::new(alloc);
     for file in files {
@@ -107,7 +108,7 @@ fn finish<S: Store>(
     files: Items<LeftFile>,
 ) -> Result<String, AllocError>
     requires { filter.old.down ≡ false }
-    ensures { Follows S.kept (order.Finish ticket files) (seen filter.old) (seen filter.new) (answer_text result) }
+    ensures { Follows S.kept S.last_life (order.Finish ticket files) (seen filter.old) (seen filter.new) (answer_text result) }
 {
     match lefts_in(alloc, &filter.store, files.as_slice()) {
         Ok(lefts) => make(filter, alloc, Call::Finish(ticket, lefts)),
@@ -122,7 +123,7 @@ fn bring<S: Store>(
     file: Text,
 ) -> Result<String, AllocError>
     requires { filter.old.down ≡ false }
-    ensures { Follows S.kept (order.Blob file) (seen filter.old) (seen filter.new) (answer_text result) }
+    ensures { Follows S.kept S.last_life (order.Blob file) (seen filter.old) (seen filter.new) (answer_text result) }
 {
     match filter.store.read(alloc, file.as_str()) {
         Ok(content) => make(filter, alloc, Call::Bring(content)),
@@ -137,7 +138,7 @@ fn hand<S: Store>(
     digest: Digest,
     file: Text,
 ) -> Result<String, AllocError>
-    ensures { Follows S.kept (order.Content digest file) (seen filter.now) (seen filter.now) (answer_text result) }
+    ensures { Follows S.kept S.last_life (order.Content digest file) (seen filter.now) (seen filter.now) (answer_text result) }
 {
     let Some(content) = filter.core.content(&digest) else {
         return print_line(alloc, NO_CONTENT);
@@ -150,7 +151,7 @@ fn hand<S: Store>(
 
 /// `state`: how an ask stands.
 fn tell<S: Store>(filter: &NodeFilter<S>, alloc: Global, ask: Ask) -> Result<String, AllocError>
-    ensures { Follows S.kept (order.State ask) (seen filter.now) (seen filter.now) (answer_text result) }
+    ensures { Follows S.kept S.last_life (order.State ask) (seen filter.now) (seen filter.now) (answer_text result) }
 {
     let state = filter.core.ask_state(alloc, ask)?;
     print_state(alloc, ask, &state)
@@ -163,7 +164,7 @@ impl<S: Store> NodeFilter<S> {
         alloc: Global,
         line: Result<Items<u8>, Lost>,
     ) -> Result<String, AllocError>
-        ensures { Filters S.kept line (answer_text result) (seen self.old) (seen self.new) }
+        ensures { Filters S.kept S.last_life line (answer_text result) (seen self.old) (seen self.new) }
     {
         if self.down {
             return print_line(alloc, STORE_FAULT);
@@ -183,7 +184,7 @@ impl<S: Store> Step for NodeFilter<S> {
     ghost use Rattle.nodefilter.specs.Filters.{Filters, IsSettled};
     ghost use Rattle.nodefilter.specs.States.{seen};
 
-    ghost steps = { λ old line answer new. Filters S.kept line answer (seen old) (seen new) };
+    ghost steps = { λ old line answer new. Filters S.kept S.last_life line answer (seen old) (seen new) };
 
     ghost settles = { IsSettled };
 

@@ -1,1 +1,2 @@
 mod FiledLemmas
+mod LifeLemmas

@@ -2,8 +2,8 @@
 ghost use Rattle.std.specs.Prelude.{◌≡◌, IfOk};
 ghost use Rattle.nodestore.specs.Stores.{has_digest, HasFound};
 
+use super::life::{life_in, life_text};
 use super::store::{FileFault, Store, StoreFault};
-use names::reading::{after, number, split};
 use names::{Content, Digest, Key, Life, NodeId};
 use std::alloc::{AllocError, Global};
 use std::fs::{self, OpenFile};
@@ -140,14 +140,6 @@ fn file_fault(error: io::Error) -> FileFault {
     }
 }
 
-/// The node and the life that `node N life L` says.
-fn life_in(text: &str) -> Option<(NodeId, Life)> {
-    let (node, life) = split(after(text, "node ")?, ' ')?;
-    let node = u32::try_from(number(node)?).ok()?;
-    let life = number(after(life, "life ")?.strip_suffix('\n')?)?;
-    Some((NodeId(node), Life(life)))
-}
-
 /// The last life that a folder has, 0 where it has none.
 fn last_life<R: Files>(
     files: &R,
@@ -240,7 +232,7 @@ impl<'a, R: Files> FileStore<'a, R> {
 
     /// Puts a life in its file.
     fn put_life(&self, life: Life) -> io::Result<()> {
-        let text = format!(in self.alloc; "node {} life {}\n", self.node.0, life.0)?;
+        let text = life_text(self.alloc, self.node, life)?;
         put_file(
             self.files,
             self.alloc,

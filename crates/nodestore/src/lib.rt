@@ -2,6 +2,7 @@
 #![tactic(auto)]
 
 mod file_store;
+mod life;
 mod store;
 
 pub use file_store::{FileStore, Found, OpenFault, open_store};

@@ -21,8 +21,8 @@ does_run : (key : List ℕ) (p q : Processes) → Does key p q → Runs content_
 does_run key p q (Answers_lines limit lines text old new same heard b) = (over_files content_digest key limit lines text old new p same heard b).0
 does_run key p q (Is_killed limit lines answers old new same heard h) = kill_over_files content_digest key limit lines answers old new p same heard h
 does_run key p q (Starts keeper new same taken) = start_over_files content_digest keeper new p same taken
-does_run key p q (Node_answers_lines limit lines text old new keyed is heard b) = (node.a_batch_is_a_run has_digest limit lines text old new p is heard b).0
-does_run key p q (Node_is_killed limit lines answers old new keyed is heard h) = node.a_kill_is_a_run has_digest limit lines answers old new p is heard h
+does_run key p q (Node_answers_lines limit lines text old new keyed is heard b) = (node.a_batch_is_a_run has_digest last_life limit lines text old new p is heard b).0
+does_run key p q (Node_is_killed limit lines answers old new keyed is heard h) = node.a_kill_is_a_run has_digest last_life limit lines answers old new p is heard h
 does_run key p q (Node_starts origin started keyed left begins) = (node.a_start_is_a_run has_digest last_life origin started p left begins).0
 
 pub every_run : EveryFarmIsARun

@@ -56,12 +56,12 @@ pub data Does (key : List ℕ) (p : Processes) : Processes → Type 0 where
   Node_answers_lines : (limit : ℕ) (lines : List (List ℕ)) (text : List ℕ) (old new : NodeFilter store.Filed)
       → (seen old).key ≡ key → IsNodeOf p (seen old)
       → node.AreOfTheFarm (seen old).key (seen old).me lines p.written
-      → (b : Batch (node_steps has_digest) IsSettled limit lines text old new)
-      → Does key p (with_node p (seen old).me (seen new).node (node.batch_messages has_digest limit lines text old new b))
+      → (b : Batch (node_steps has_digest last_life) IsSettled limit lines text old new)
+      → Does key p (with_node p (seen old).me (seen new).node (node.batch_messages has_digest last_life limit lines text old new b))
   Node_is_killed : (limit : ℕ) (lines answers : List (List ℕ)) (old new : NodeFilter store.Filed) → (seen old).key ≡ key
       → IsNodeOf p (seen old)
       → node.AreOfTheFarm (seen old).key (seen old).me lines p.written
-      → Answers (node_steps has_digest) limit old lines answers new
+      → Answers (node_steps has_digest last_life) limit old lines answers new
       → Does key p (with_node p (seen old).me (seen new).node [])
   -- it starts from what its folder has, and says so
   Node_starts : (origin : Origin store.Filed) (started : Started store.Filed) → origin.key ≡ key → IsLeftOf p origin

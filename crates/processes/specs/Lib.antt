@@ -1,2 +1,3 @@
 pub mod Farms
+pub mod Looked
 pub mod Served

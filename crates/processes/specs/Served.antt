@@ -23,7 +23,7 @@ IsServed saving loading syncing kept lasting key text old new before after =
     Serves (filter_steps saving loading kept key) (Settles syncing loading kept lasting) (LINE_LIMIT + 2) (codes "= started\n") (lines_behind [] text) old new before after
 
 -- a node greeted, and then answered each whole line of the text, each from what the one before it left
-abbrev pub IsNodeServed : {S : Type 0} → Kept S → Started S → List ℕ → Option (List ℕ) → Option (List ℕ) → Type 0
-IsNodeServed {S} kept started text before after =
+abbrev pub IsNodeServed : {S : Type 0} → Kept S → (S → ℕ) → Started S → List ℕ → Option (List ℕ) → Option (List ℕ) → Type 0
+IsNodeServed {S} kept last_life started text before after =
     (new : NodeFilter S)
-    × Serves (node_steps kept) IsSettled (LINE_LIMIT + 2) (string_bytes started.greeting) (lines_behind [] text) started.filter new before after
+    × Serves (node_steps kept last_life) IsSettled (LINE_LIMIT + 2) (string_bytes started.greeting) (lines_behind [] text) started.filter new before after

@@ -1,35 +1,54 @@
 //! What a coordinator's files hold, looked at before a keeper opens them.
+ghost use Rattle.std.specs.Prelude.{◌≡◌, [], true, Some};
+ghost use Rattle.processes.specs.Looked.{is_name, follows_record, IsFlawIn, IsFlawOf};
+
 use super::fault::{Cause, ProcessFault};
 use super::files::bytes_if_there;
 use coordinator::{CoordRefusal, Coordinator, NotStarted};
 use filekeeper::{FileKeeper, Gathered, LogFault, texts_in};
-use saverecord::RecordRefusal;
+use saverecord::{Log, RecordRefusal};
 use std::alloc::Global;
 use std::io;
 use std::rt::Files;
 
-/// Whether a log follows a record, and not the beginning of a farm: its first entry names one.
-fn follows_record(log: &[u8]) -> bool {
-    match log.first_chunk::<8>() {
-        Some(name) => *name != [0; 8],
-        None => false,
-    }
+/// Whether these bytes name a record: those of the beginning of a farm are zeros.
+fn is_name(name: &[u8]) -> bool
+    ensures { result ≡ is_name name.now }
+{
+    name.iter().any(|byte| *byte != 0)
 }
 
-/// Why these bytes of a record's file and of its log's hold nothing, if they don't.
-fn flaw_of(alloc: Global, whole: Vec<u8>, log: &[u8]) -> Option<Cause> {
-    if whole.is_empty() && follows_record(log) {
-        return Some(Cause::LogAlone);
-    }
-    let texts = match texts_in(alloc, whole, log) {
-        Ok(texts) => texts,
-        Err(LogFault::OutOfMemory) => return Some(Cause::OutOfMemory),
-        Err(LogFault::BadHead(_)) => return Some(Cause::BadRecord),
-    };
+/// Whether a log follows a record, and not the beginning of a farm: its first entry names one.
+fn follows_record(log: &[u8]) -> bool
+    ensures { result ≡ follows_record log.now }
+{
+    log.len() >= 8 && is_name(&log[..8])
+}
+
+/// Why these texts hold no ledger, if they don't.
+fn flaw_in(alloc: Global, texts: &Log) -> Option<Cause>
+    ensures { IsFlawIn texts.now result }
+{
     match texts.read(alloc) {
         Ok(_) => None,
         Err(RecordRefusal::OutOfMemory) => Some(Cause::OutOfMemory),
         Err(_) => Some(Cause::BadRecord),
+    }
+}
+
+/// Why these bytes of a record's file and of its log's hold nothing, if they don't.
+fn flaw_of(alloc: Global, whole: Vec<u8>, log: &[u8]) -> Option<Cause>
+    ensures flaw { IsFlawOf whole.items log.now result }
+    // So a log isn't taken without the record that it follows.
+    ensures alone { whole.items ≡ [] → follows_record log.now ≡ true → result ≡ Some Cause.LogAlone }
+{
+    if whole.is_empty() && follows_record(log) {
+        return Some(Cause::LogAlone);
+    }
+    match texts_in(alloc, whole, log) {
+        Ok(texts) => flaw_in(alloc, &texts),
+        Err(LogFault::OutOfMemory) => Some(Cause::OutOfMemory),
+        Err(LogFault::BadHead(_)) => Some(Cause::BadRecord),
     }
 }
 

@@ -1,5 +1,5 @@
 //! A node as a process.
-ghost use Rattle.std.specs.Prelude.{OnOk, IfSome};
+ghost use Rattle.std.specs.Prelude.{◌≡◌, ◌-◌, max, OnOk, IfSome};
 ghost use Rattle.nodefilter.specs.Rules.{ABatchIsARun, AKillIsARun, AStartIsARun};
 ghost use Rattle.processes.specs.Farms.{EveryFarmStaysSafe};
 ghost use Rattle.processes.specs.Served.{IsNodeServed};
@@ -40,10 +40,10 @@ pub fn serve_node<S: Store, R: Read + Drop, W: Write>(
     writer: &mut W,
 ) -> io::Result<()>
     ensures served { OnOk result (IfSome (R.remaining reader) (λ text.
-        IsNodeServed S.kept started text (W.contents writer.old) (W.contents writer.new))) }
+        IsNodeServed S.kept S.last_life started text (W.contents writer.old) (W.contents writer.new))) }
     // So it is a node of protocol's processes, whatever lines come, and wherever it is killed and started again.
-    ensures process { ABatchIsARun S.kept }
-    ensures killed { AKillIsARun S.kept }
+    ensures process { ABatchIsARun S.kept S.last_life }
+    ensures killed { AKillIsARun S.kept S.last_life }
     ensures started { AStartIsARun S.kept S.last_life }
 {
     a_batch_is_a_run::<S>();
@@ -101,6 +101,13 @@ fn not_started(alloc: Global, path: &str, fault: StartFault) -> ProcessFault {
     }
 }
 
+/// The life after which the next one begins: the last one that was kept, and no less than the second before this one.
+fn last_before(kept: Life, seconds: u64) -> Life
+    ensures { result.0 ≡ max kept.0 (seconds - 1) }
+{
+    Life(kept.0.max(seconds.saturating_sub(1)))
+}
+
 /// Begins the next life of a node from what its folder has: greater than any before, and at least the seconds since 1970, so that
 /// a folder that was lost isn't taken for the old process.
 fn begun<'a, R: Files + Clock + AllocGlobal + Clone + Drop>(
@@ -116,7 +123,7 @@ fn begun<'a, R: Files + Clock + AllocGlobal + Clone + Drop>(
     let Ok(facts) = skipped(alloc, found.wrong.as_slice()) else {
         return Err(ProcessFault::out_of_memory(alloc));
     };
-    let last = Life(store.last().0.max(seconds(rt).saturating_sub(1)));
+    let last = last_before(store.last(), seconds(rt));
     let origin = Origin {
         me: place.node,
         nodes: place.nodes,

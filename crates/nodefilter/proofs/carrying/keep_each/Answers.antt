@@ -1,4 +1,4 @@
-use Rattle.std.proofs.Common.{◌≡◌, true, List, option_copied, sym, ap, subst, arith}
+use Rattle.std.proofs.Common.{◌≡◌, true, List, option_copied, sym, ap, ◌∙◌, subst, arith}
 use Rattle.std.specs.List.{Contains}
 use Rattle.std.proofs.lemmas.List.{take_all}
 use Rattle.nodecore.specs.Shown.{shown}
@@ -16,11 +16,13 @@ loop-digest-preserved g c =
         kept = kept_more g.S.Store.kept store c.args.digests.now c.loop-digest.digest-index _ c.loop-digest.store w.keep.new.self c.loop-digest-test.true inv.kept
             w.keep.ensures.others (λ content is. subst (λ (d : Digest). g.S.Store.kept w.keep.new.self d ≡ true) w.in-Some.ensures.digest w.in_ok-keep.ensures.kept);
         others = λ d apart h. w.keep.ensures.others d apart (inv.others d apart h);
+        life = w.keep.ensures.life ∙ inv.life;
       })
       | in_default w ↦ rw w.store-is (record {
         kept = kept_more g.S.Store.kept store c.args.digests.now c.loop-digest.digest-index _ c.loop-digest.store c.loop-digest.store c.loop-digest-test.true inv.kept
             (λ d apart h. h) (none_stored g.S.Store.kept store _ _ c.loop-digest.store c.content.ensures.value (ap option_copied w.in_default.is));
         others = inv.others;
+        life = inv.life;
       })
     ]
 
