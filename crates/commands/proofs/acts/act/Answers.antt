@@ -60,7 +60,7 @@ pub returns-clause-refused : goal.returns-clause-refused
 returns-clause-refused g c = λ one. absurd (let zero = c.print.ensures.status (λ four. cc (one, four)) in cc (one, zero))
 
 pub returns-clause-quiet : goal.returns-clause-quiet
-returns-clause-quiet g c = λ one. absurd (let zero = c.print.ensures.status (λ four. cc (one, four)) in cc (one, zero))
+returns-clause-quiet g c = λ done fault. absurd (done (c.print.ensures.status fault))
 
 pub returns-in_default-clause-refused : goal.returns-in_default-clause-refused
 returns-in_default-clause-refused g c = λ one.
