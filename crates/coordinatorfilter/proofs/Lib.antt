@@ -1,2 +1,3 @@
 mod ShownLemmas
 pub mod RuleLemmas
+pub mod PowerLemmas

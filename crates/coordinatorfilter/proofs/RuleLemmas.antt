@@ -2,6 +2,7 @@
 use Rattle.std.proofs.Common.{◌≡◌, ◌⊎◌, ℕ, Bool, true, false, List, [], ◌∷◌, ◌++◌, Option, Some, None, Result, Ok, Err, inl, inr, refl, sym, ap, ◌∙◌, subst, append_assoc}
 use Rattle.std.specs.Prelude.{map, ⊤, if◌then◌else◌}
 use Rattle.std.proofs.lemmas.List.{append-nil}
+use Rattle.std.proofs.Math.Seq.{take-length}
 use Rattle.ledger.specs.declared.handled.Handled.{Handled}
 use Rattle.coordinator.specs.Held.{ledger}
 use Rattle.coordinator.specs.Seen.{Seen}
@@ -12,7 +13,8 @@ use Rattle.names.specs.declared.digest.Digest.{Digest}
 use Rattle.names.specs.declared.limits.TheConstants.{NODES}
 use Rattle.farm_base.specs.declared.message.Message.{Message}
 use Rattle.farm_base.specs.declared.message.ToCoord.{ToCoord}
-use Rattle.filekeeper.specs.Keepers.{Filed, GatherSaves, FileGathers, FileSaves, FileLoads, FileSyncs, file_texts}
+use Rattle.filekeeper.specs.Calls.{Called}
+use Rattle.filekeeper.specs.Keepers.{Filed, FileLoads, FileSyncs, failed_once, file_texts, lasts, left_by}
 use Rattle.events.specs.declared.answer.CoordRefusal.{CoordRefusal}
 use Rattle.events.specs.declared.answer.CoordRefusal.TheVariants.{Down, SaveFault, BadRecord, NotLive, SlotLeased, NoSuchSlot, TicketsSpent, OutOfMemory, LoadFault, Tenure, TenureHeld, NodeRetired}
 use Rattle.protocol.specs.Farm.{farm_limits}
@@ -45,7 +47,7 @@ use Rattle.services.specs.Served as served
 use Rattle.services.specs.Served.{joined, settled_text}
 use Rattle.coordinatorfilter.specs.Written.{IsAnswered, fact_lines, note_line, Filters, Settles}
 use Rattle.coordinatorfilter.specs.Written.Filters.{Calls, Stops, Shows, Drops}
-use Rattle.coordinatorfilter.specs.Rules.{IsHonest, memory_of, process_of, AreOfTheFarm, with_coordinator, filter_steps, sends_of, line_messages, messages_of, settled_messages, batch_messages, killed_of, ABatchIsARun, AKillIsARun, AStartIsARun, ABatchOverFilesIsARun, AKillOverFilesIsARun, AStartOverFilesIsARun}
+use Rattle.coordinatorfilter.specs.Rules.{AddsEntry, IsHonest, file_saves, memory_of, process_of, AreOfTheFarm, with_coordinator, filter_steps, sends_of, line_messages, messages_of, settled_messages, batch_messages, gone_with, LastsWhileUp, ABatchIsARun, AKillIsARun, AStartIsARun, ABatchOverFilesIsARun, AKillOverFilesIsARun, AStartOverFilesIsARun}
 use Rattle.services.specs.Says.{Says, Says_all}
 use Rattle.services.specs.Says.Says_all.{Says_none, Says_more}
 use Rattle.services.proofs.SaysLemmas.{still_in, nothing_said, said_of, said_both}
@@ -76,296 +78,341 @@ pub does_silently : (sha : List ℕ → Digest) (p : Processes) (c d : Coordinat
     → process.CoordinatorDoes farm_limits NODES (p.written ++ messages) c [] d → Comes sha p d messages
 does_silently sha p c d messages h step = nothing_more sha p d messages (does sha p c d messages [] h step)
 
--- ---- restarts
+module _ {K : Type 0} (saving : Saving K) (loading : Loading K) (syncing : Syncing K) (kept lasting : K → Texts)
+    (honest : IsHonest saving loading syncing kept lasting) where
+  -- ---- keepers
 
-process_is : {K : Type 0} (kept : K → Texts) (s t : Seen K) → t.held ≡ s.held → t.down ≡ s.down → kept t.keeper ≡ kept s.keeper → process_of kept s ≡ process_of kept t
-process_is kept s t held down keeper = λ i. record { memory = memory_of (sym down i) (ledger (sym held i)); disk = saved_in (sym keeper i) }
+  -- what a save, a load or a sync leaves of the texts that are kept
+  saves_keep : (old : K) (texts : Texts) (new : K) → saving old texts true new → kept new ≡ texts
+  saves_keep old texts new h = (honest.saves old texts new h).0
 
-pub restarted : {K : Type 0} (saving : Saving K) (loading : Loading K) (syncing : Syncing K) (kept : K → Texts) → IsHonest saving loading syncing kept
-    → (sha : List ℕ → Digest) (p : Processes) (messages : List Message) (old new : Seen K) (result : Result ⊤ CoordRefusal)
-    → Restarts loading (kept old.keeper) old new result → Comes sha p (process_of kept old) messages → Comes sha p (process_of kept new) messages
-restarted saving loading syncing kept honest sha p messages old new (Ok done) r h =
-    let texts = honest.loads old.keeper None new.keeper r.loaded in
-    let started = does_silently sha p (process_of kept old) (record (process_of kept old) { memory = Some (reads (saved_in (kept old.keeper))) }) messages h Starts in
-    same_process sha p _ (process_of kept new) messages
-    (λ i. record { memory = (ap (λ q. Some q) (sym r.ledger) ∙ ap (λ b. memory_of b (ledger new.held)) (sym r.up)) i; disk = saved_in (sym texts i) }) started
-restarted saving loading syncing kept honest sha p messages old new (Err LoadFault) r h =
-    let texts = honest.loads old.keeper _ new.keeper r.0 in
-    let killed = does_silently sha p (process_of kept old) (record (process_of kept old) { memory = None }) messages h Is_killed in
-    same_process sha p _ (process_of kept new) messages (λ i. record { memory = (ap (λ b. memory_of b (ledger new.held)) (sym r.2)) i; disk = saved_in (sym texts i) }) killed
-restarted saving loading syncing kept honest sha p messages old new (Err OutOfMemory) r h =
-    same_process sha p _ _ messages (process_is kept old new r.1 r.2 (honest.loads old.keeper _ new.keeper r.0.1)) h
-restarted saving loading syncing kept honest sha p messages old new (Err Down) r h = absurd r
-restarted saving loading syncing kept honest sha p messages old new (Err SaveFault) r h = absurd r
-restarted saving loading syncing kept honest sha p messages old new (Err BadRecord) r h = absurd r
-restarted saving loading syncing kept honest sha p messages old new (Err NotLive) r h = absurd r
-restarted saving loading syncing kept honest sha p messages old new (Err SlotLeased) r h = absurd r
-restarted saving loading syncing kept honest sha p messages old new (Err NoSuchSlot) r h = absurd r
-restarted saving loading syncing kept honest sha p messages old new (Err TicketsSpent) r h = absurd r
-restarted saving loading syncing kept honest sha p messages old new (Err Tenure) r h = absurd r
-restarted saving loading syncing kept honest sha p messages old new (Err TenureHeld) r h = absurd r
-restarted saving loading syncing kept honest sha p messages old new (Err NodeRetired) r h = absurd r
+  fails_keep : (old : K) (texts : Texts) (new : K) → saving old texts false new → (kept new ≡ kept old) ⊎ (kept new ≡ texts)
+  fails_keep old texts new h = elim (honest.fails old texts new h) [ inl same ↦ inl same.0 | inr all ↦ inr all.0 ]
 
--- where one is due
-pub restarted_if : {K : Type 0} (saving : Saving K) (loading : Loading K) (syncing : Syncing K) (kept : K → Texts) → IsHonest saving loading syncing kept
-    → (sha : List ℕ → Digest) (p : Processes) (messages : List Message) (due : Bool) (old new : Seen K) (restart : Option (Result ⊤ CoordRefusal))
-    → RestartsIf due loading (kept old.keeper) old new restart → Comes sha p (process_of kept old) messages → Comes sha p (process_of kept new) messages
-restarted_if saving loading syncing kept honest sha p messages false old new restart r h = same_process sha p _ _ messages (ap (process_of kept) (sym r.1)) h
-restarted_if saving loading syncing kept honest sha p messages true old new None r h = absurd r
-restarted_if saving loading syncing kept honest sha p messages true old new (Some result) r h =
-    restarted saving loading syncing kept honest sha p messages old new result r h
+  pub loads_keep : (old : K) (refusal : Option KeeperRefusal) (new : K) → loading old refusal new → kept new ≡ kept old
+  loads_keep old refusal new h = elim (honest.loads old refusal new h) [ inl same ↦ same.0 | inr all ↦ all.0 ]
 
--- ---- calls
+  -- ---- restarts
 
--- what is written of an answer: its messages, or nothing where they are lost
-abbrev pub AreSaid : Result Handled CoordRefusal → List Message → Type 0
-AreSaid (Ok h) said = IsPartOf (map Told h.sends) said
-AreSaid (Err e) said = said ≡ []
+  process_is : (s t : Seen K) → t.held ≡ s.held → t.down ≡ s.down → kept t.keeper ≡ kept s.keeper → process_of kept s ≡ process_of kept t
+  process_is s t held down keeper = λ i. record { memory = memory_of (sym down i) (ledger (sym held i)); disk = saved_in (sym keeper i) }
 
-silently : (sha : List ℕ → Digest) (p : Processes) (c : Coordinator) (messages said : List Message) → said ≡ [] → Comes sha p c messages → Comes sha p c (messages ++ said)
-silently sha p c messages said none h = subst (Comes sha p c) (sym (append-nil messages) ∙ ap (λ more. messages ++ more) (sym none)) h
+  pub restarted : (sha : List ℕ → Digest) (p : Processes) (messages : List Message) (old new : Seen K) (result : Result ⊤ CoordRefusal)
+      → Restarts loading (kept old.keeper) old new result → Comes sha p (process_of kept old) messages → Comes sha p (process_of kept new) messages
+  restarted sha p messages old new (Ok done) r h =
+      let texts = loads_keep old.keeper None new.keeper r.loaded in
+      let started = does_silently sha p (process_of kept old) (record (process_of kept old) { memory = Some (reads (saved_in (kept old.keeper))) }) messages h Starts in
+      same_process sha p _ (process_of kept new) messages
+      (λ i. record { memory = (ap (λ q. Some q) (sym r.ledger) ∙ ap (λ b. memory_of b (ledger new.held)) (sym r.up)) i; disk = saved_in (sym texts i) }) started
+  restarted sha p messages old new (Err LoadFault) r h =
+      let texts = loads_keep old.keeper _ new.keeper r.0 in
+      let killed = does_silently sha p (process_of kept old) (record (process_of kept old) { memory = None }) messages h Is_killed in
+      same_process sha p _ (process_of kept new) messages (λ i. record { memory = (ap (λ b. memory_of b (ledger new.held)) (sym r.2)) i; disk = saved_in (sym texts i) }) killed
+  restarted sha p messages old new (Err OutOfMemory) r h =
+      same_process sha p _ _ messages (process_is old new r.1 r.2 (loads_keep old.keeper _ new.keeper r.0.1)) h
+  restarted sha p messages old new (Err Down) r h = absurd r
+  restarted sha p messages old new (Err SaveFault) r h = absurd r
+  restarted sha p messages old new (Err BadRecord) r h = absurd r
+  restarted sha p messages old new (Err NotLive) r h = absurd r
+  restarted sha p messages old new (Err SlotLeased) r h = absurd r
+  restarted sha p messages old new (Err NoSuchSlot) r h = absurd r
+  restarted sha p messages old new (Err TicketsSpent) r h = absurd r
+  restarted sha p messages old new (Err Tenure) r h = absurd r
+  restarted sha p messages old new (Err TenureHeld) r h = absurd r
+  restarted sha p messages old new (Err NodeRetired) r h = absurd r
 
-none_of : (result : Result Handled CoordRefusal) (e : CoordRefusal) (said : List Message) → result ≡ Err e → AreSaid result said → said ≡ []
-none_of result e said is h = subst (λ r. AreSaid r said) is h
+  -- where one is due
+  pub restarted_if : (sha : List ℕ → Digest) (p : Processes) (messages : List Message) (due : Bool) (old new : Seen K) (restart : Option (Result ⊤ CoordRefusal))
+      → RestartsIf due loading (kept old.keeper) old new restart → Comes sha p (process_of kept old) messages → Comes sha p (process_of kept new) messages
+  restarted_if sha p messages false old new restart r h = same_process sha p _ _ messages (ap (process_of kept) (sym r.1)) h
+  restarted_if sha p messages true old new None r h = absurd r
+  restarted_if sha p messages true old new (Some result) r h =
+      restarted sha p messages old new result r h
 
-one_call : (written : List Message) (call : process.Call) → MayCome NODES written call → AllMayCome NODES written (call ∷ [])
-one_call written call may c (inl e) = subst (MayCome NODES written) (sym e) may
-one_call written call may c (inr none) = absurd none
+  -- ---- calls
 
-no_call : (written : List Message) → AllMayCome NODES written []
-no_call written c none = absurd none
+  -- what is written of an answer: its messages, or nothing where they are lost
+  abbrev pub AreSaid : Result Handled CoordRefusal → List Message → Type 0
+  AreSaid (Ok h) said = IsPartOf (map Told h.sends) said
+  AreSaid (Err e) said = said ≡ []
 
--- what the disk has after a save
-disk_is : {K : Type 0} (saving : Saving K) (loading : Loading K) (syncing : Syncing K) (kept : K → Texts) → IsHonest saving loading syncing kept
-    → (changed : Bool) (s : Saved) (old new : K) → SavesIf saving changed s old new → (if changed then s else saved_in (kept old)) ≡ saved_in (kept new)
-disk_is saving loading syncing kept honest true s old new h = sym (ap saved_in (honest.saves old h.texts new h.left) ∙ held_in h.texts s h.holds)
-disk_is saving loading syncing kept honest false s old new h = ap (λ k. saved_in (kept k)) (sym h)
+  silently : (sha : List ℕ → Digest) (p : Processes) (c : Coordinator) (messages said : List Message) → said ≡ [] → Comes sha p c messages → Comes sha p c (messages ++ said)
+  silently sha p c messages said none h = subst (Comes sha p c) (sym (append-nil messages) ∙ ap (λ more. messages ++ more) (sym none)) h
 
--- a call of a coordinator that is up
-answered : {K : Type 0} (saving : Saving K) (loading : Loading K) (syncing : Syncing K) (kept : K → Texts) → IsHonest saving loading syncing kept
-    → (sha : List ℕ → Digest) (p : Processes) (messages said : List Message) (call : process.Call) (work : Result Work CoordRefusal) (old new : Seen K) (result : Result Handled CoordRefusal)
-    → decided farm_limits (ledger old.held) call ≡ work → old.down ≡ false → MayCome NODES (p.written ++ messages) call → Answers saving work old new result
-    → Comes sha p (process_of kept old) messages → AreSaid result said → Comes sha p (process_of kept new) (messages ++ said)
-answered saving loading syncing kept honest sha p messages said call (Ok w) old new (Ok done) is up may answer h part =
-    let q : Ledger = ledger old.held in
-    let disk : Saved = saved_in (kept old.keeper) in
-    let sends : IsPartOf (map Told w.sends) said = subst (λ ys. IsPartOf (map Told ys) said) answer.sends part in
-    let one : process.CoordinatorDoes farm_limits NODES (p.written ++ messages) (process_of kept old) said (is_up (batch farm_limits (call ∷ []) (begin_batch q disk))) =
-    Works q (call ∷ []) said (ap (λ b. memory_of b q) up) (one_call (p.written ++ messages) call may) (subst (λ r. IsPartOf (process.taken r (begin_batch q disk)).sends said) (sym is) sends) in
-    let after : is_up (process.taken (Ok w) (begin_batch q disk)) ≡ process_of kept new =
-    λ i. record { memory = (ap (λ l. Some l) (sym answer.ledger) ∙ ap (λ b. memory_of b (ledger new.held)) (sym answer.up)) i; disk = disk_is saving loading syncing kept honest w.changed (saves w.ledger) old.keeper new.keeper answer.saved i } in
-    does sha p (process_of kept old) (process_of kept new) messages said h (subst (λ c. process.CoordinatorDoes farm_limits NODES (p.written ++ messages) (process_of kept old) said c)
-    (ap (λ r. is_up (process.taken r (begin_batch q disk))) is ∙ after) one)
-answered saving loading syncing kept honest sha p messages said call (Ok w) old new (Err SaveFault) is up may answer h none =
-    let q : Ledger = ledger old.held in
-    let disk : Saved = saved_in (kept old.keeper) in
-    let memory = ap (λ b. memory_of b q) up in
-    let over : None ≡ memory_of new.down (ledger new.held) = ap (λ b. memory_of b (ledger new.held)) (sym answer.down) in
-    silently sha p (process_of kept new) messages said none
-    (elim (honest.fails old.keeper answer.saved.texts new.keeper answer.saved.left) [
-      | inl still ↦ same_process sha p _ (process_of kept new) messages (λ i. record { memory = over i; disk = saved_in (sym still i) })
-          (does_silently sha p (process_of kept old) (is_down (batch farm_limits [] (begin_batch q disk))) messages h (Fails q [] [] memory (no_call (p.written ++ messages))))
-      | inr stands ↦ same_process sha p _ (process_of kept new) messages
-          (ap (λ r. is_down (process.taken r (begin_batch q disk))) is ∙ (λ i. record {
-            memory = over i;
-            disk = (ap (λ b. if b then saves w.ledger else disk) answer.changed ∙ sym (ap saved_in stands ∙ held_in answer.saved.texts (saves w.ledger) answer.saved.holds)) i;
-          }))
-          (does_silently sha p (process_of kept old) (is_down (batch farm_limits (call ∷ []) (begin_batch q disk))) messages h (Fails q (call ∷ []) [] memory (one_call (p.written ++ messages) call may)))
-    ])
-answered saving loading syncing kept honest sha p messages said call (Ok w) old new (Err Down) is up may answer h none =
-    silently sha p (process_of kept new) messages said none (same_process sha p _ _ messages (ap (process_of kept) (sym answer.1)) h)
-answered saving loading syncing kept honest sha p messages said call (Ok w) old new (Err BadRecord) is up may answer h none =
-    silently sha p (process_of kept new) messages said none (same_process sha p _ _ messages (ap (process_of kept) (sym answer.1)) h)
-answered saving loading syncing kept honest sha p messages said call (Ok w) old new (Err NotLive) is up may answer h none =
-    silently sha p (process_of kept new) messages said none (same_process sha p _ _ messages (ap (process_of kept) (sym answer.1)) h)
-answered saving loading syncing kept honest sha p messages said call (Ok w) old new (Err SlotLeased) is up may answer h none =
-    silently sha p (process_of kept new) messages said none (same_process sha p _ _ messages (ap (process_of kept) (sym answer.1)) h)
-answered saving loading syncing kept honest sha p messages said call (Ok w) old new (Err NoSuchSlot) is up may answer h none =
-    silently sha p (process_of kept new) messages said none (same_process sha p _ _ messages (ap (process_of kept) (sym answer.1)) h)
-answered saving loading syncing kept honest sha p messages said call (Ok w) old new (Err TicketsSpent) is up may answer h none =
-    silently sha p (process_of kept new) messages said none (same_process sha p _ _ messages (ap (process_of kept) (sym answer.1)) h)
-answered saving loading syncing kept honest sha p messages said call (Ok w) old new (Err OutOfMemory) is up may answer h none =
-    silently sha p (process_of kept new) messages said none (same_process sha p _ _ messages (ap (process_of kept) (sym answer.1)) h)
-answered saving loading syncing kept honest sha p messages said call (Ok w) old new (Err LoadFault) is up may answer h none =
-    silently sha p (process_of kept new) messages said none (same_process sha p _ _ messages (ap (process_of kept) (sym answer.1)) h)
-answered saving loading syncing kept honest sha p messages said call (Ok w) old new (Err Tenure) is up may answer h none =
-    silently sha p (process_of kept new) messages said none (same_process sha p _ _ messages (ap (process_of kept) (sym answer.1)) h)
-answered saving loading syncing kept honest sha p messages said call (Ok w) old new (Err TenureHeld) is up may answer h none =
-    silently sha p (process_of kept new) messages said none (same_process sha p _ _ messages (ap (process_of kept) (sym answer.1)) h)
-answered saving loading syncing kept honest sha p messages said call (Ok w) old new (Err NodeRetired) is up may answer h none =
-    silently sha p (process_of kept new) messages said none (same_process sha p _ _ messages (ap (process_of kept) (sym answer.1)) h)
-answered saving loading syncing kept honest sha p messages said call (Err e) old new result is up may answer h said_is =
-    silently sha p (process_of kept new) messages said (none_of result e said answer.0 said_is) (same_process sha p _ _ messages (ap (process_of kept) (sym answer.1)) h)
+  none_of : (result : Result Handled CoordRefusal) (e : CoordRefusal) (said : List Message) → result ≡ Err e → AreSaid result said → said ≡ []
+  none_of result e said is h = subst (λ r. AreSaid r said) is h
 
--- a call of any coordinator
-settled : {K : Type 0} (saving : Saving K) (loading : Loading K) (syncing : Syncing K) (kept : K → Texts) → IsHonest saving loading syncing kept
-    → (sha : List ℕ → Digest) (p : Processes) (messages said : List Message) (call : process.Call) (down : Bool) (old new : Seen K) (result : Result Handled CoordRefusal)
-    → old.down ≡ down → MayCome NODES (p.written ++ messages) call → SettlesWhile down saving (decided farm_limits (ledger old.held) call) old new result
-    → Comes sha p (process_of kept old) messages → AreSaid result said → Comes sha p (process_of kept new) (messages ++ said)
-settled saving loading syncing kept honest sha p messages said call true old new result is may answer h part =
-    silently sha p (process_of kept new) messages said (none_of result Down said answer.0 part) (same_process sha p _ _ messages (ap (process_of kept) (sym answer.1)) h)
-settled saving loading syncing kept honest sha p messages said call false old new result is may answer h part =
-    answered saving loading syncing kept honest sha p messages said call (decided farm_limits (ledger old.held) call) old new result refl is may answer h part
+  one_call : (written : List Message) (call : process.Call) → MayCome NODES written call → AllMayCome NODES written (call ∷ [])
+  one_call written call may c (inl e) = subst (MayCome NODES written) (sym e) may
+  one_call written call may c (inr none) = absurd none
 
--- with the restarts that go with it
-carried : {K : Type 0} (saving : Saving K) (loading : Loading K) (syncing : Syncing K) (kept : K → Texts) → IsHonest saving loading syncing kept
-    → (sha : List ℕ → Digest) (p : Processes) (messages said : List Message) (call : process.Call) (old new : Seen K) (reply : Reply)
-    → MayCome NODES (p.written ++ messages) call → CarriesOut saving loading kept call old new reply
-    → Comes sha p (process_of kept old) messages → AreSaid reply.answer said → Comes sha p (process_of kept new) (messages ++ said)
-carried saving loading syncing kept honest sha p messages said call old new reply may c h part =
-    let ready = restarted_if saving loading syncing kept honest sha p messages old.down old c.ready reply.before c.before h in
-    let done = settled saving loading syncing kept honest sha p messages said call c.ready.down c.ready c.done reply.answer refl may c.answer ready part in
-    restarted_if saving loading syncing kept honest sha p (messages ++ said) (is_save_fault reply.answer) c.done new reply.after c.after done
+  no_call : (written : List Message) → AllMayCome NODES written []
+  no_call written c none = absurd none
 
--- ---- lines
+  -- what the disk has after a save
+  disk_is : (changed : Bool) (s : Saved) (old new : K) → SavesIf saving changed s old new → (if changed then s else saved_in (kept old)) ≡ saved_in (kept new)
+  disk_is true s old new h = sym (ap saved_in (saves_keep old h.texts new h.left) ∙ held_in h.texts s h.holds)
+  disk_is false s old new h = ap (λ k. saved_in (kept k)) (sym h)
 
-are_said : (lost : Bool) (result : Result Handled CoordRefusal) → AreSaid result (said_of lost (sends_of result))
-are_said true (Ok h) = part_none (map Told h.sends)
-are_said true (Err e) = refl
-are_said false (Ok h) = part_refl (map Told h.sends)
-are_said false (Err e) = refl
+  -- a call of a coordinator that is up
+  answered : (sha : List ℕ → Digest) (p : Processes) (messages said : List Message) (call : process.Call) (work : Result Work CoordRefusal) (old new : Seen K) (result : Result Handled CoordRefusal)
+      → decided farm_limits (ledger old.held) call ≡ work → old.down ≡ false → MayCome NODES (p.written ++ messages) call → Answers saving work old new result
+      → Comes sha p (process_of kept old) messages → AreSaid result said → Comes sha p (process_of kept new) (messages ++ said)
+  answered sha p messages said call (Ok w) old new (Ok done) is up may answer h part =
+      let q : Ledger = ledger old.held in
+      let disk : Saved = saved_in (kept old.keeper) in
+      let sends : IsPartOf (map Told w.sends) said = subst (λ ys. IsPartOf (map Told ys) said) answer.sends part in
+      let one : process.CoordinatorDoes farm_limits NODES (p.written ++ messages) (process_of kept old) said (is_up (batch farm_limits (call ∷ []) (begin_batch q disk))) =
+      Works q (call ∷ []) said (ap (λ b. memory_of b q) up) (one_call (p.written ++ messages) call may) (subst (λ r. IsPartOf (process.taken r (begin_batch q disk)).sends said) (sym is) sends) in
+      let after : is_up (process.taken (Ok w) (begin_batch q disk)) ≡ process_of kept new =
+      λ i. record { memory = (ap (λ l. Some l) (sym answer.ledger) ∙ ap (λ b. memory_of b (ledger new.held)) (sym answer.up)) i; disk = disk_is w.changed (saves w.ledger) old.keeper new.keeper answer.saved i } in
+      does sha p (process_of kept old) (process_of kept new) messages said h (subst (λ c. process.CoordinatorDoes farm_limits NODES (p.written ++ messages) (process_of kept old) said c)
+      (ap (λ r. is_up (process.taken r (begin_batch q disk))) is ∙ after) one)
+  answered sha p messages said call (Ok w) old new (Err SaveFault) is up may answer h none =
+      let q : Ledger = ledger old.held in
+      let disk : Saved = saved_in (kept old.keeper) in
+      let memory = ap (λ b. memory_of b q) up in
+      let over : None ≡ memory_of new.down (ledger new.held) = ap (λ b. memory_of b (ledger new.held)) (sym answer.down) in
+      silently sha p (process_of kept new) messages said none
+      (elim (fails_keep old.keeper answer.saved.texts new.keeper answer.saved.left) [
+        | inl still ↦ same_process sha p _ (process_of kept new) messages (λ i. record { memory = over i; disk = saved_in (sym still i) })
+            (does_silently sha p (process_of kept old) (is_down (batch farm_limits [] (begin_batch q disk))) messages h (Fails q [] [] memory (no_call (p.written ++ messages))))
+        | inr stands ↦ same_process sha p _ (process_of kept new) messages
+            (ap (λ r. is_down (process.taken r (begin_batch q disk))) is ∙ (λ i. record {
+              memory = over i;
+              disk = (ap (λ b. if b then saves w.ledger else disk) answer.changed ∙ sym (ap saved_in stands ∙ held_in answer.saved.texts (saves w.ledger) answer.saved.holds)) i;
+            }))
+            (does_silently sha p (process_of kept old) (is_down (batch farm_limits (call ∷ []) (begin_batch q disk))) messages h (Fails q (call ∷ []) [] memory (one_call (p.written ++ messages) call may)))
+      ])
+  answered sha p messages said call (Ok w) old new (Err Down) is up may answer h none =
+      silently sha p (process_of kept new) messages said none (same_process sha p _ _ messages (ap (process_of kept) (sym answer.1)) h)
+  answered sha p messages said call (Ok w) old new (Err BadRecord) is up may answer h none =
+      silently sha p (process_of kept new) messages said none (same_process sha p _ _ messages (ap (process_of kept) (sym answer.1)) h)
+  answered sha p messages said call (Ok w) old new (Err NotLive) is up may answer h none =
+      silently sha p (process_of kept new) messages said none (same_process sha p _ _ messages (ap (process_of kept) (sym answer.1)) h)
+  answered sha p messages said call (Ok w) old new (Err SlotLeased) is up may answer h none =
+      silently sha p (process_of kept new) messages said none (same_process sha p _ _ messages (ap (process_of kept) (sym answer.1)) h)
+  answered sha p messages said call (Ok w) old new (Err NoSuchSlot) is up may answer h none =
+      silently sha p (process_of kept new) messages said none (same_process sha p _ _ messages (ap (process_of kept) (sym answer.1)) h)
+  answered sha p messages said call (Ok w) old new (Err TicketsSpent) is up may answer h none =
+      silently sha p (process_of kept new) messages said none (same_process sha p _ _ messages (ap (process_of kept) (sym answer.1)) h)
+  answered sha p messages said call (Ok w) old new (Err OutOfMemory) is up may answer h none =
+      silently sha p (process_of kept new) messages said none (same_process sha p _ _ messages (ap (process_of kept) (sym answer.1)) h)
+  answered sha p messages said call (Ok w) old new (Err LoadFault) is up may answer h none =
+      silently sha p (process_of kept new) messages said none (same_process sha p _ _ messages (ap (process_of kept) (sym answer.1)) h)
+  answered sha p messages said call (Ok w) old new (Err Tenure) is up may answer h none =
+      silently sha p (process_of kept new) messages said none (same_process sha p _ _ messages (ap (process_of kept) (sym answer.1)) h)
+  answered sha p messages said call (Ok w) old new (Err TenureHeld) is up may answer h none =
+      silently sha p (process_of kept new) messages said none (same_process sha p _ _ messages (ap (process_of kept) (sym answer.1)) h)
+  answered sha p messages said call (Ok w) old new (Err NodeRetired) is up may answer h none =
+      silently sha p (process_of kept new) messages said none (same_process sha p _ _ messages (ap (process_of kept) (sym answer.1)) h)
+  answered sha p messages said call (Err e) old new result is up may answer h said_is =
+      silently sha p (process_of kept new) messages said (none_of result e said answer.0 said_is) (same_process sha p _ _ messages (ap (process_of kept) (sym answer.1)) h)
 
-none_said : (lost : Bool) (result : Result Handled CoordRefusal) → AreSaid result (said_of lost [])
-none_said true (Ok h) = part_none (map Told h.sends)
-none_said true (Err e) = refl
-none_said false (Ok h) = part_none (map Told h.sends)
-none_said false (Err e) = refl
+  -- a call of any coordinator
+  settled : (sha : List ℕ → Digest) (p : Processes) (messages said : List Message) (call : process.Call) (down : Bool) (old new : Seen K) (result : Result Handled CoordRefusal)
+      → old.down ≡ down → MayCome NODES (p.written ++ messages) call → SettlesWhile down saving (decided farm_limits (ledger old.held) call) old new result
+      → Comes sha p (process_of kept old) messages → AreSaid result said → Comes sha p (process_of kept new) (messages ++ said)
+  settled sha p messages said call true old new result is may answer h part =
+      silently sha p (process_of kept new) messages said (none_of result Down said answer.0 part) (same_process sha p _ _ messages (ap (process_of kept) (sym answer.1)) h)
+  settled sha p messages said call false old new result is may answer h part =
+      answered sha p messages said call (decided farm_limits (ledger old.held) call) old new result refl is may answer h part
 
-quiet : (lost : Bool) (sha : List ℕ → Digest) (p : Processes) (c : Coordinator) (messages : List Message) → Comes sha p c messages → Comes sha p c (messages ++ said_of lost [])
-quiet true sha p c messages h = silently sha p c messages [] refl h
-quiet false sha p c messages h = silently sha p c messages [] refl h
+  -- with the restarts that go with it
+  carried : (sha : List ℕ → Digest) (p : Processes) (messages said : List Message) (call : process.Call) (old new : Seen K) (reply : Reply)
+      → MayCome NODES (p.written ++ messages) call → CarriesOut saving loading kept call old new reply
+      → Comes sha p (process_of kept old) messages → AreSaid reply.answer said → Comes sha p (process_of kept new) (messages ++ said)
+  carried sha p messages said call old new reply may c h part =
+      let ready = restarted_if sha p messages old.down old c.ready reply.before c.before h in
+      let done = settled sha p messages said call c.ready.down c.ready c.done reply.answer refl may c.answer ready part in
+      restarted_if sha p (messages ++ said) (is_save_fault reply.answer) c.done new reply.after c.after done
 
--- what is handed on is the line
-line_given : (limit : ℕ) (key line : List ℕ) (given : Result (List ℕ) Lost) (o : Order) → IsKept limit line given → AsksFor key given o → Orders key line o
-line_given limit key line (Ok text) o kept asks = subst (λ t. Orders key t o) kept.1 asks
-line_given limit key line (Err lost) o kept asks = absurd asks
+  -- ---- lines
 
-may_come : (key line : List ℕ) (written : List Message) (call : Call) → ((message : ToCoord) → Asks key line (Handle message) → In (Said message) written) → Asks key line call → MayCome NODES written (called call)
-may_come key line written (Handle message) heard asks = heard message asks
-may_come key line written (Withdraw ticket) heard asks = tt
-may_come key line written (Prune slot) heard asks = tt
-may_come key line written Nudge heard asks = tt
-may_come key line written (Retire node) heard (Heard sealed is none) = absurd none
-may_come key line written (Retire node) heard (Own utf own) = own.1
+  are_said : (lost : Bool) (result : Result Handled CoordRefusal) → AreSaid result (said_of lost (sends_of result))
+  are_said true (Ok h) = part_none (map Told h.sends)
+  are_said true (Err e) = refl
+  are_said false (Ok h) = part_refl (map Told h.sends)
+  are_said false (Err e) = refl
 
-line_comes : {K : Type 0} (saving : Saving K) (loading : Loading K) (syncing : Syncing K) (kept : K → Texts) → IsHonest saving loading syncing kept
-    → (sha : List ℕ → Digest) (key : List ℕ) (limit : ℕ) (p : Processes) (messages : List Message) (lost : Bool) (line : List ℕ) (given : Result (List ℕ) Lost) (answer : List ℕ) (old new : Seen K)
-    → ((message : ToCoord) → Asks key line (Handle message) → In (Said message) p.written) → IsKept limit line given
-    → (f : Filters saving loading kept key given answer old new) → Comes sha p (process_of kept old) messages → Comes sha p (process_of kept new) (messages ++ said_of lost (line_messages f))
-line_comes saving loading syncing kept honest sha key limit p messages lost line given answer old new heard is (Calls call reply asks done (inl written)) h =
-    carried saving loading syncing kept honest sha p messages (said_of lost (sends_of reply.answer)) (called call) old new reply
-    (may_come key line (p.written ++ messages) call (λ m a. still_in (Said m) p.written messages (heard m a)) (line_given limit key line given (order.Call call) is asks)) done h (are_said lost reply.answer)
-line_comes saving loading syncing kept honest sha key limit p messages lost line given answer old new heard is (Calls call reply asks done (inr out)) h =
-    carried saving loading syncing kept honest sha p messages (said_of lost []) (called call) old new reply
-    (may_come key line (p.written ++ messages) call (λ m a. still_in (Said m) p.written messages (heard m a)) (line_given limit key line given (order.Call call) is asks)) done h (none_said lost reply.answer)
-line_comes saving loading syncing kept honest sha key limit p messages lost line given answer old new heard is (Stops call asks restart out) h =
-    quiet lost sha p (process_of kept new) messages (restarted_if saving loading syncing kept honest sha p messages old.down old new restart.0 restart.1 h)
-line_comes saving loading syncing kept honest sha key limit p messages lost line given answer old new heard is (Shows question asks same text) h =
-    quiet lost sha p (process_of kept new) messages (same_process sha p _ _ messages (ap (process_of kept) (sym same)) h)
-line_comes saving loading syncing kept honest sha key limit p messages lost line given answer old new heard is (Drops why asks same text) h =
-    quiet lost sha p (process_of kept new) messages (same_process sha p _ _ messages (ap (process_of kept) (sym same)) h)
+  none_said : (lost : Bool) (result : Result Handled CoordRefusal) → AreSaid result (said_of lost [])
+  none_said true (Ok h) = part_none (map Told h.sends)
+  none_said true (Err e) = refl
+  none_said false (Ok h) = part_none (map Told h.sends)
+  none_said false (Err e) = refl
 
-lines_come : {K : Type 0} (saving : Saving K) (loading : Loading K) (syncing : Syncing K) (kept : K → Texts) → IsHonest saving loading syncing kept
-    → (sha : List ℕ → Digest) (key : List ℕ) (limit : ℕ) (p : Processes) (messages : List Message) (lost : Bool) (lines answers : List (List ℕ)) (old new : Seen K)
-    → AreOfTheFarm key lines p.written → (h : served.Answers (filter_steps saving loading kept key) limit old lines answers new)
-    → Comes sha p (process_of kept old) messages → Comes sha p (process_of kept new) (messages ++ said_of lost (messages_of saving loading kept key limit old new lines answers h))
-lines_come saving loading syncing kept honest sha key limit p messages lost [] [] old new heard h c = quiet lost sha p (process_of kept new) messages (same_process sha p _ _ messages (ap (process_of kept) h) c)
-lines_come saving loading syncing kept honest sha key limit p messages lost [] (a ∷ answers) old new heard h c = absurd h
-lines_come saving loading syncing kept honest sha key limit p messages lost (l ∷ lines) [] old new heard h c = absurd h
-lines_come saving loading syncing kept honest sha key limit p messages lost (l ∷ lines) (a ∷ answers) old new heard h c =
-    let said : List Message = said_of lost (line_messages h.3) in
-    let more : List Message = messages_of saving loading kept key limit h.1 new lines answers h.4 in
-    let first = line_comes saving loading syncing kept honest sha key limit p messages lost l h.0 a old h.1 (λ m asks. heard l m (inl refl) asks) h.2 h.3 c in
-    let rest = lines_come saving loading syncing kept honest sha key limit p (messages ++ said) lost lines answers h.1 new (λ line m i asks. heard line m (inr i) asks) h.4 first in
-    subst (Comes sha p (process_of kept new)) (append_assoc messages said (said_of lost more) ∙ ap (λ ms. messages ++ ms) (said_both lost (line_messages h.3) more)) rest
+  quiet : (lost : Bool) (sha : List ℕ → Digest) (p : Processes) (c : Coordinator) (messages : List Message) → Comes sha p c messages → Comes sha p c (messages ++ said_of lost [])
+  quiet true sha p c messages h = silently sha p c messages [] refl h
+  quiet false sha p c messages h = silently sha p c messages [] refl h
 
--- what is written says them
-answer_says : (key facts : List ℕ) (result : Result Handled CoordRefusal) (answer : List ℕ) → IsAnswered key facts result answer → Says key (sends_of result) answer
-answer_says key facts (Err e) answer is = nothing_said key answer
-answer_says key facts (Ok h) answer is = record { sent = is.0; notes = facts ++ note_line h.note; sealed = is.1; text_is = is.2 }
+  -- what is handed on is the line
+  line_given : (limit : ℕ) (key line : List ℕ) (given : Result (List ℕ) Lost) (o : Order) → IsKept limit line given → AsksFor key given o → Orders key line o
+  line_given limit key line (Ok text) o kept asks = subst (λ t. Orders key t o) kept.1 asks
+  line_given limit key line (Err lost) o kept asks = absurd asks
 
-line_says : {K : Type 0} (saving : Saving K) (loading : Loading K) (kept : K → Texts) (key : List ℕ) (given : Result (List ℕ) Lost) (answer : List ℕ) (old new : Seen K)
-    → (f : Filters saving loading kept key given answer old new) → Says key (line_messages f) answer
-line_says saving loading kept key given answer old new (Calls call reply asks done (inl written)) = answer_says key (fact_lines reply) reply.answer answer written
-line_says saving loading kept key given answer old new (Calls call reply asks done (inr out)) = nothing_said key answer
-line_says saving loading kept key given answer old new (Stops call asks restart out) = nothing_said key answer
-line_says saving loading kept key given answer old new (Shows question asks same text) = nothing_said key answer
-line_says saving loading kept key given answer old new (Drops why asks same text) = nothing_said key answer
+  may_come : (key line : List ℕ) (written : List Message) (call : Call) → ((message : ToCoord) → Asks key line (Handle message) → In (Said message) written) → Asks key line call → MayCome NODES written (called call)
+  may_come key line written (Handle message) heard asks = heard message asks
+  may_come key line written (Withdraw ticket) heard asks = tt
+  may_come key line written (Prune slot) heard asks = tt
+  may_come key line written Nudge heard asks = tt
+  may_come key line written (Retire node) heard (Heard sealed is none) = absurd none
+  may_come key line written (Retire node) heard (Own utf own) = own.1
 
-lines_say : {K : Type 0} (saving : Saving K) (loading : Loading K) (kept : K → Texts) (key : List ℕ) (limit : ℕ) (lines answers : List (List ℕ)) (old new : Seen K)
-    → (h : served.Answers (filter_steps saving loading kept key) limit old lines answers new) → Says_all key (messages_of saving loading kept key limit old new lines answers h) (joined answers)
-lines_say saving loading kept key limit [] [] old new h = Says_none
-lines_say saving loading kept key limit [] (a ∷ answers) old new h = absurd h
-lines_say saving loading kept key limit (l ∷ lines) [] old new h = absurd h
-lines_say saving loading kept key limit (l ∷ lines) (a ∷ answers) old new h =
-    Says_more (line_messages h.3) (messages_of saving loading kept key limit h.1 new lines answers h.4) a (joined answers)
-    (line_says saving loading kept key h.0 a old h.1 h.3) (lines_say saving loading kept key limit lines answers h.1 new h.4)
+  line_comes : (sha : List ℕ → Digest) (key : List ℕ) (limit : ℕ) (p : Processes) (messages : List Message) (lost : Bool) (line : List ℕ) (given : Result (List ℕ) Lost) (answer : List ℕ) (old new : Seen K)
+      → ((message : ToCoord) → Asks key line (Handle message) → In (Said message) p.written) → IsKept limit line given
+      → (f : Filters saving loading kept key given answer old new) → Comes sha p (process_of kept old) messages → Comes sha p (process_of kept new) (messages ++ said_of lost (line_messages f))
+  line_comes sha key limit p messages lost line given answer old new heard is (Calls call reply asks done (inl written)) h =
+      carried sha p messages (said_of lost (sends_of reply.answer)) (called call) old new reply
+      (may_come key line (p.written ++ messages) call (λ m a. still_in (Said m) p.written messages (heard m a)) (line_given limit key line given (order.Call call) is asks)) done h (are_said lost reply.answer)
+  line_comes sha key limit p messages lost line given answer old new heard is (Calls call reply asks done (inr out)) h =
+      carried sha p messages (said_of lost []) (called call) old new reply
+      (may_come key line (p.written ++ messages) call (λ m a. still_in (Said m) p.written messages (heard m a)) (line_given limit key line given (order.Call call) is asks)) done h (none_said lost reply.answer)
+  line_comes sha key limit p messages lost line given answer old new heard is (Stops call asks restart out) h =
+      quiet lost sha p (process_of kept new) messages (restarted_if sha p messages old.down old new restart.0 restart.1 h)
+  line_comes sha key limit p messages lost line given answer old new heard is (Shows question asks same text) h =
+      quiet lost sha p (process_of kept new) messages (same_process sha p _ _ messages (ap (process_of kept) (sym same)) h)
+  line_comes sha key limit p messages lost line given answer old new heard is (Drops why asks same text) h =
+      quiet lost sha p (process_of kept new) messages (same_process sha p _ _ messages (ap (process_of kept) (sym same)) h)
 
--- ---- batches
+  pub lines_come : (sha : List ℕ → Digest) (key : List ℕ) (limit : ℕ) (p : Processes) (messages : List Message) (lost : Bool) (lines answers : List (List ℕ)) (old new : Seen K)
+      → AreOfTheFarm key lines p.written → (h : served.Answers (filter_steps saving loading kept key) limit old lines answers new)
+      → Comes sha p (process_of kept old) messages → Comes sha p (process_of kept new) (messages ++ said_of lost (messages_of saving loading kept key limit old new lines answers h))
+  lines_come sha key limit p messages lost [] [] old new heard h c = quiet lost sha p (process_of kept new) messages (same_process sha p _ _ messages (ap (process_of kept) h) c)
+  lines_come sha key limit p messages lost [] (a ∷ answers) old new heard h c = absurd h
+  lines_come sha key limit p messages lost (l ∷ lines) [] old new heard h c = absurd h
+  lines_come sha key limit p messages lost (l ∷ lines) (a ∷ answers) old new heard h c =
+      let said : List Message = said_of lost (line_messages h.3) in
+      let more : List Message = messages_of saving loading kept key limit h.1 new lines answers h.4 in
+      let first = line_comes sha key limit p messages lost l h.0 a old h.1 (λ m asks. heard l m (inl refl) asks) h.2 h.3 c in
+      let rest = lines_come sha key limit p (messages ++ said) lost lines answers h.1 new (λ line m i asks. heard line m (inr i) asks) h.4 first in
+      subst (Comes sha p (process_of kept new)) (append_assoc messages said (said_of lost more) ∙ ap (λ ms. messages ++ ms) (said_both lost (line_messages h.3) more)) rest
 
--- text that says nothing
-unsaid : (key text : List ℕ) → Says_all key [] text
-unsaid key text = subst (Says_all key []) (append-nil text) (Says_more [] [] text [] (nothing_said key text) Says_none)
+  -- what is written says them
+  answer_says : (key facts : List ℕ) (result : Result Handled CoordRefusal) (answer : List ℕ) → IsAnswered key facts result answer → Says key (sends_of result) answer
+  answer_says key facts (Err e) answer is = nothing_said key answer
+  answer_says key facts (Ok h) answer is = record { sent = is.0; notes = facts ++ note_line h.note; sealed = is.1; text_is = is.2 }
 
-made : {K : Type 0} (saving : Saving K) (loading : Loading K) (syncing : Syncing K) (kept lasting : K → Texts) → IsHonest saving loading syncing kept
-    → (sha : List ℕ → Digest) (key : List ℕ) (limit : ℕ) (lines answers : List (List ℕ)) (settled : Settled) (old mid new : Seen K) (p : Processes)
-    → p.coordinator ≡ process_of kept old → AreOfTheFarm key lines p.written → (h : served.Answers (filter_steps saving loading kept key) limit old lines answers mid)
-    → Settles syncing loading kept lasting mid settled new →
-    let messages : List Message = settled_messages settled (messages_of saving loading kept key limit old mid lines answers h) in
-    Comes sha p (process_of kept new) messages × Says_all key messages (settled_text settled answers)
-made saving loading syncing kept lasting honest sha key limit lines answers Lasts old mid new p same heard h s = (
-  same_process sha p _ _ (messages_of saving loading kept key limit old mid lines answers h) (process_is kept mid new s.0.1 s.0.2 (honest.syncs mid.keeper true new.keeper s.0.0))
-      (lines_come saving loading syncing kept honest sha key limit p [] false lines answers old mid heard h (rests sha p (process_of kept old) same)),
-  lines_say saving loading kept key limit lines answers old mid h,
-)
-made saving loading syncing kept lasting honest sha key limit lines answers (Failed restart) old mid new p same heard h s =
-    let failed = s.0 in
-    let silent : Comes sha p (process_of kept mid) [] = lines_come saving loading syncing kept honest sha key limit p [] true lines answers old mid heard h (rests sha p (process_of kept old) same) in
-    let killed = does_silently sha p (process_of kept mid) (record (process_of kept mid) { memory = None }) [] silent Is_killed in
-    let is_failed = same_process sha p _ (process_of kept failed) []
-    (λ i. record { memory = (ap (λ b. memory_of b (ledger failed.held)) (sym s.1.2)) i; disk = saved_in (sym (honest.syncs mid.keeper false failed.keeper s.1.0) i) }) killed in
-    (restarted saving loading syncing kept honest sha p [] failed new restart s.2 is_failed, unsaid key (settled_text (Failed restart) answers))
+  line_says : (key : List ℕ) (given : Result (List ℕ) Lost) (answer : List ℕ) (old new : Seen K)
+      → (f : Filters saving loading kept key given answer old new) → Says key (line_messages f) answer
+  line_says key given answer old new (Calls call reply asks done (inl written)) = answer_says key (fact_lines reply) reply.answer answer written
+  line_says key given answer old new (Calls call reply asks done (inr out)) = nothing_said key answer
+  line_says key given answer old new (Stops call asks restart out) = nothing_said key answer
+  line_says key given answer old new (Shows question asks same text) = nothing_said key answer
+  line_says key given answer old new (Drops why asks same text) = nothing_said key answer
 
-pub a_batch_is_a_run : {K : Type 0} (saving : Saving K) (loading : Loading K) (syncing : Syncing K) (kept lasting : K → Texts) → IsHonest saving loading syncing kept
-    → ABatchIsARun saving loading syncing kept lasting
-a_batch_is_a_run saving loading syncing kept lasting honest sha key limit lines text old new p same heard b =
-    let done = made saving loading syncing kept lasting honest sha key limit lines b.answers b.settled old b.answered_to new p same heard b.answered b.made in
-    (done.0, subst (Says_all key (batch_messages saving loading syncing kept lasting key limit lines text old new b)) (sym b.text_is) done.1)
+  lines_say : (key : List ℕ) (limit : ℕ) (lines answers : List (List ℕ)) (old new : Seen K)
+      → (h : served.Answers (filter_steps saving loading kept key) limit old lines answers new) → Says_all key (messages_of saving loading kept key limit old new lines answers h) (joined answers)
+  lines_say key limit [] [] old new h = Says_none
+  lines_say key limit [] (a ∷ answers) old new h = absurd h
+  lines_say key limit (l ∷ lines) [] old new h = absurd h
+  lines_say key limit (l ∷ lines) (a ∷ answers) old new h =
+      Says_more (line_messages h.3) (messages_of saving loading kept key limit h.1 new lines answers h.4) a (joined answers)
+      (line_says key h.0 a old h.1 h.3) (lines_say key limit lines answers h.1 new h.4)
 
-pub a_kill_is_a_run : {K : Type 0} (saving : Saving K) (loading : Loading K) (syncing : Syncing K) (kept : K → Texts) → IsHonest saving loading syncing kept → AKillIsARun saving loading kept
-a_kill_is_a_run saving loading syncing kept honest sha key limit lines answers old new p same heard h =
-    does_silently sha p (process_of kept new) (killed_of kept new) []
-    (lines_come saving loading syncing kept honest sha key limit p [] true lines answers old new heard h (rests sha p (process_of kept old) same)) Is_killed
+  -- ---- batches
 
-pub a_start_is_a_run : {K : Type 0} (saving : Saving K) (loading : Loading K) (syncing : Syncing K) (kept : K → Texts) → IsHonest saving loading syncing kept → AStartIsARun loading kept
-a_start_is_a_run saving loading syncing kept honest sha keeper new p same taken =
-    same_process sha p _ (process_of kept new) []
-    (λ i. record {
-      memory = (ap (λ disk. Some (reads disk)) same ∙ ap (λ q. Some q) (sym taken.ledger) ∙ ap (λ b. memory_of b (ledger new.held)) (sym taken.up)) i;
-      disk = (same ∙ ap saved_in (sym (honest.loads keeper None new.keeper taken.loaded))) i;
-    })
-    (does_silently sha p p.coordinator (record p.coordinator { memory = Some (reads p.coordinator.disk) }) [] (rests sha p p.coordinator refl) Starts)
+  -- text that says nothing
+  unsaid : (key text : List ℕ) → Says_all key [] text
+  unsaid key text = subst (Says_all key []) (append-nil text) (Says_more [] [] text [] (nothing_said key text) Says_none)
+
+  -- a restart leaves a coordinator down, or with all that is kept lasting
+  restart_lasts : (old new : Seen K) (result : Result ⊤ CoordRefusal) → old.down ≡ true → Restarts loading (kept old.keeper) old new result → LastsWhileUp kept new lasting
+  restart_lasts old new (Ok done) down r up =
+      let all = honest.loaded old.keeper new.keeper r.loaded in
+      all.1 ∙ sym all.0
+  restart_lasts old new (Err LoadFault) down r up = (let bad : true ≡ false = sym r.2 ∙ up in absurd (cc bad))
+  restart_lasts old new (Err OutOfMemory) down r up = (let bad : true ≡ false = sym down ∙ sym r.2 ∙ up in absurd (cc bad))
+  restart_lasts old new (Err Down) down r up = absurd r
+  restart_lasts old new (Err SaveFault) down r up = absurd r
+  restart_lasts old new (Err BadRecord) down r up = absurd r
+  restart_lasts old new (Err NotLive) down r up = absurd r
+  restart_lasts old new (Err SlotLeased) down r up = absurd r
+  restart_lasts old new (Err NoSuchSlot) down r up = absurd r
+  restart_lasts old new (Err TicketsSpent) down r up = absurd r
+  restart_lasts old new (Err Tenure) down r up = absurd r
+  restart_lasts old new (Err TenureHeld) down r up = absurd r
+  restart_lasts old new (Err NodeRetired) down r up = absurd r
+
+  made : (sha : List ℕ → Digest) (key : List ℕ) (limit : ℕ) (lines answers : List (List ℕ)) (settled : Settled) (old mid new : Seen K) (p : Processes)
+      → p.coordinator ≡ process_of kept old → AreOfTheFarm key lines p.written → (h : served.Answers (filter_steps saving loading kept key) limit old lines answers mid)
+      → Settles syncing loading kept lasting mid settled new →
+      let messages : List Message = settled_messages settled (messages_of saving loading kept key limit old mid lines answers h) in
+      Comes sha p (process_of kept new) messages × LastsWhileUp kept new lasting × Says_all key messages (settled_text settled answers)
+  made sha key limit lines answers Lasts old mid new p same heard h s = (
+    same_process sha p _ _ (messages_of saving loading kept key limit old mid lines answers h) (process_is mid new s.0.1 s.0.2 (honest.syncs mid.keeper true new.keeper s.0.0))
+        (lines_come sha key limit p [] false lines answers old mid heard h (rests sha p (process_of kept old) same)),
+    λ up. s.1,
+    lines_say key limit lines answers old mid h,
+  )
+  made sha key limit lines answers (Failed restart) old mid new p same heard h s =
+      let failed = s.0 in
+      let silent : Comes sha p (process_of kept mid) [] = lines_come sha key limit p [] true lines answers old mid heard h (rests sha p (process_of kept old) same) in
+      let killed = does_silently sha p (process_of kept mid) (record (process_of kept mid) { memory = None }) [] silent Is_killed in
+      let is_failed = same_process sha p _ (process_of kept failed) []
+      (λ i. record { memory = (ap (λ b. memory_of b (ledger failed.held)) (sym s.1.2)) i; disk = saved_in (sym (honest.syncs mid.keeper false failed.keeper s.1.0) i) }) killed in (
+        restarted sha p [] failed new restart s.2 is_failed,
+        restart_lasts failed new restart s.1.2 s.2,
+        unsaid key (settled_text (Failed restart) answers),
+      )
+
+  pub a_batch_is_a_run : ABatchIsARun saving loading syncing kept lasting
+  a_batch_is_a_run sha key limit lines text old new p same heard b =
+      let done = made sha key limit lines b.answers b.settled old b.answered_to new p same heard b.answered b.made in
+      (done.0, done.1, subst (Says_all key (batch_messages saving loading syncing kept lasting key limit lines text old new b)) (sym b.text_is) done.2)
+
+  pub a_kill_is_a_run : AKillIsARun saving loading kept
+  a_kill_is_a_run sha key limit lines answers old new p same heard h =
+      does_silently sha p (process_of kept new) (gone_with (kept new.keeper)) []
+      (lines_come sha key limit p [] true lines answers old new heard h (rests sha p (process_of kept old) same)) Is_killed
+
+  pub a_start_is_a_run : AStartIsARun loading kept lasting
+  a_start_is_a_run sha keeper new p same taken =
+      let all = honest.loaded keeper new.keeper taken.loaded in (
+        same_process sha p _ (process_of kept new) []
+            (λ i. record {
+              memory = (ap (λ disk. Some (reads disk)) same ∙ ap (λ q. Some q) (sym taken.ledger) ∙ ap (λ b. memory_of b (ledger new.held)) (sym taken.up)) i;
+              disk = (same ∙ ap saved_in (sym all.0)) i;
+            })
+            (does_silently sha p p.coordinator (record p.coordinator { memory = Some (reads p.coordinator.disk) }) [] (rests sha p p.coordinator refl) Starts),
+        λ up. all.1 ∙ sym all.0,
+      )
 
 -- ---- keepers in files
 
-gathered_file : IsHonest (GatherSaves FileGathers FileSaves) FileLoads FileSyncs (λ f. f.texts)
-gathered_file = record { saves = saves_so; fails = fails_so; loads = loads_so; syncs = syncs_so }
+-- all texts last
+last_all : (f : Filed) → file_texts (lasts f) ≡ f.texts
+last_all f = ap (λ (entries : List (List ℕ)). record f.texts { entries = entries }) (take-length f.texts.entries)
+
+pub gathered_file : IsHonest file_saves FileLoads FileSyncs (λ f. f.texts) file_texts
+gathered_file = record { saves = saves_so; fails = fails_so; loaded = loaded_so; loads = loads_so; syncs = syncs_so }
   where
-    saves_so : (old : Filed) (texts : Texts) (new : Filed) → GatherSaves FileGathers FileSaves old texts true new → new.texts ≡ texts
-    saves_so old texts new (inl g) = ap (λ f. f.texts) g.1
-    saves_so old texts new (inr s) = ap (λ f. f.texts) s.1
+    all_last : (f g : Filed) (calls : List Called) (settled : Bool) → g ≡ left_by calls settled (lasts f) → (g.texts ≡ f.texts) × (file_texts g ≡ f.texts)
+    all_last f g calls settled e = (ap (λ x. x.texts) e, ap file_texts e ∙ last_all f)
 
-    fails_so : (old : Filed) (texts : Texts) (new : Filed) → GatherSaves FileGathers FileSaves old texts false new → (new.texts ≡ old.texts) ⊎ (new.texts ≡ texts)
+    all_fail : (f g : Filed) (calls : List Called) (settled : Bool) → g ≡ left_by calls settled (failed_once (lasts f)) → (g.texts ≡ f.texts) × (file_texts g ≡ f.texts)
+    all_fail f g calls settled e = (ap (λ x. x.texts) e, ap file_texts e ∙ last_all f)
+
+    saves_so : (old : Filed) (texts : Texts) (new : Filed) → file_saves old texts true new
+        → (new.texts ≡ texts) × ((file_texts new ≡ texts) ⊎ AddsEntry old.texts (file_texts old) texts (file_texts new))
+    saves_so old texts new (inl g) = (ap (λ f. f.texts) g.1.left.0, inr (record { entry = g.1.entry; kept = g.1.texts_are; lasts = g.1.left.1 }))
+    saves_so old texts new (inr s) = (let both = all_last (record old { texts = texts }) new new.calls true s.1 in (both.0, inl both.1))
+
+    fails_so : (old : Filed) (texts : Texts) (new : Filed) → file_saves old texts false new
+        → ((new.texts ≡ old.texts) × (file_texts new ≡ file_texts old)) ⊎ ((new.texts ≡ texts) × (file_texts new ≡ texts))
     fails_so old texts new (inl g) = (let bad : false ≡ true = g.0 in absurd (cc bad))
-    fails_so old texts new (inr (inl (inl same))) = inl (ap (λ f. f.texts) same)
-    fails_so old texts new (inr (inl (inr called))) = inl (ap (λ f. f.texts) called.1)
-    fails_so old texts new (inr (inr called)) = inr (ap (λ f. f.texts) called.1)
+    fails_so old texts new (inr (inl (inl same))) = inl (ap (λ f. f.texts) same, ap file_texts same)
+    fails_so old texts new (inr (inl (inr called))) = inl (ap (λ f. f.texts) called.1, ap file_texts called.1)
+    fails_so old texts new (inr (inr called)) = inr (all_fail (record old { texts = texts }) new new.calls new.settled called.1)
 
-    loads_so : (old : Filed) (refusal : Option KeeperRefusal) (new : Filed) → FileLoads old refusal new → new.texts ≡ old.texts
-    loads_so old None new h = ap (λ f. f.texts) h
-    loads_so old (Some keeper.OutOfMemory) new h = ap (λ f. f.texts) h
-    loads_so old (Some keeper.Fault) new (inl h) = ap (λ f. f.texts) h
-    loads_so old (Some keeper.Fault) new (inr h) = ap (λ f. f.texts) h
+    loaded_so : (old new : Filed) → FileLoads old None new → (new.texts ≡ old.texts) × (file_texts new ≡ old.texts)
+    loaded_so old new h = all_last old new new.calls true h
+
+    loads_so : (old : Filed) (refusal : Option KeeperRefusal) (new : Filed) → FileLoads old refusal new
+        → ((new.texts ≡ old.texts) × (file_texts new ≡ file_texts old)) ⊎ ((new.texts ≡ old.texts) × (file_texts new ≡ old.texts))
+    loads_so old None new h = inr (all_last old new new.calls true h)
+    loads_so old (Some keeper.OutOfMemory) new h = inr (all_last old new new.calls new.settled h)
+    loads_so old (Some keeper.Fault) new (inl h) = inl (ap (λ f. f.texts) h, ap file_texts h)
+    loads_so old (Some keeper.Fault) new (inr h) = inr (all_fail old new new.calls new.settled h)
 
     syncs_so : (old : Filed) (ok : Bool) (new : Filed) → FileSyncs old ok new → new.texts ≡ old.texts
     syncs_so old true new h = ap (λ f. f.texts) h.1
@@ -373,10 +420,10 @@ gathered_file = record { saves = saves_so; fails = fails_so; loads = loads_so; s
     syncs_so old false new (inr called) = ap (λ f. f.texts) called.1
 
 pub over_files : ABatchOverFilesIsARun
-over_files = a_batch_is_a_run (GatherSaves FileGathers FileSaves) FileLoads FileSyncs (λ f. f.texts) file_texts gathered_file
+over_files = a_batch_is_a_run file_saves FileLoads FileSyncs (λ f. f.texts) file_texts gathered_file
 
 pub kill_over_files : AKillOverFilesIsARun
-kill_over_files = a_kill_is_a_run (GatherSaves FileGathers FileSaves) FileLoads FileSyncs (λ f. f.texts) gathered_file
+kill_over_files = a_kill_is_a_run file_saves FileLoads FileSyncs (λ f. f.texts) file_texts gathered_file
 
 pub start_over_files : AStartOverFilesIsARun
-start_over_files = a_start_is_a_run (GatherSaves FileGathers FileSaves) FileLoads FileSyncs (λ f. f.texts) gathered_file
+start_over_files = a_start_is_a_run file_saves FileLoads FileSyncs (λ f. f.texts) file_texts gathered_file

@@ -10,7 +10,7 @@ use Rattle.names.specs.declared.digest.Digest.{Digest}
 use Rattle.names.specs.declared.limits.TheConstants.{NODES}
 use Rattle.farm_base.specs.declared.message.Message.{Message}
 use Rattle.farm_base.specs.declared.message.ToCoord.{ToCoord}
-use Rattle.filekeeper.specs.Keepers.{GatherSaves, FileGathers, FileSaves, FileLoads, FileSyncs, file_texts}
+use Rattle.filekeeper.specs.Keepers.{Filed, GatherSaves, FileGathers, FileSaves, FileLoads, FileSyncs, IsLeft, file_texts}
 use Rattle.protocol.specs.Farm.{farm_limits}
 use Rattle.protocol.specs.Ledger.{Ledger}
 use Rattle.protocol.specs.Lists.{In}
@@ -18,7 +18,7 @@ use Rattle.protocol.specs.Machine.{Said, Told}
 use Rattle.events.specs.declared.answer.CoordRefusal.{CoordRefusal}
 use Rattle.protocol.specs.Processes.{Coordinator, Processes, Runs}
 use Rattle.saverecord.specs.Logs.{saved_in}
-use Rattle.saverecord.specs.Texts.{Texts}
+use Rattle.saverecord.specs.Texts.{Texts, with_text}
 use Rattle.saverecord.specs.declared.refusal.KeeperRefusal.{KeeperRefusal}
 use Rattle.coordinatorlines.specs.declared.call.Call.TheVariants.{Handle}
 use Rattle.services.specs.declared.lost.Lost.{Lost}
@@ -31,14 +31,34 @@ use Rattle.services.specs.Served.{Steps, Answers, Batch}
 use Rattle.coordinatorfilter.specs.Written.{Filters, Settles}
 use Rattle.coordinatorfilter.specs.Written.Filters.{Calls, Stops, Shows, Drops}
 
--- a keeper's relations say of the texts that are kept what their names say: where a save fails these are the old or the
--- new ones
+-- an entry is kept behind all others, and as much lasts as before
+pub record AddsEntry (old_kept old_lasting new_kept new_lasting : Texts) : Type 0 where
+  pub entry : List ℕ
+  pub kept : new_kept ≡ with_text entry old_kept
+  pub lasts : new_lasting ≡ old_lasting
+
+module _ {K : Type 0} (kept lasting : K → Texts) (old new : K) where
+  -- the same texts are kept, and the same last
+  abbrev pub IsUnchanged : Type 0
+  IsUnchanged = (kept new ≡ kept old) × (lasting new ≡ lasting old)
+
+  -- these texts are kept, and all of them last
+  abbrev pub AllLast : Texts → Type 0
+  AllLast texts = (kept new ≡ texts) × (lasting new ≡ texts)
+
+-- a keeper's relations say of the texts that are kept, and of those of them that last, what their names say
 pub record IsHonest {K : Type 0} (saving : Saving K) (loading : Loading K) (syncing : Syncing K)
-    (kept : K → Texts) : Type 0 where
-  pub saves : (old : K) (texts : Texts) (new : K) → saving old texts true new → kept new ≡ texts
-  pub fails : (old : K) (texts : Texts) (new : K) → saving old texts false new → (kept new ≡ kept old)
-      ⊎ (kept new ≡ texts)
-  pub loads : (old : K) (refusal : Option KeeperRefusal) (new : K) → loading old refusal new → kept new ≡ kept old
+    (kept lasting : K → Texts) : Type 0 where
+  -- what is saved lasts, or it is one more entry that is gathered only
+  pub saves : (old : K) (texts : Texts) (new : K) → saving old texts true new → (kept new ≡ texts)
+      × ((lasting new ≡ texts) ⊎ AddsEntry (kept old) (lasting old) texts (lasting new))
+  -- where a save fails all is as before, or what was to be saved lasts
+  pub fails : (old : K) (texts : Texts) (new : K) → saving old texts false new
+      → IsUnchanged kept lasting old new ⊎ AllLast kept lasting old new texts
+  -- a load that succeeds makes all last, and another one may
+  pub loaded : (old new : K) → loading old None new → AllLast kept lasting old new (kept old)
+  pub loads : (old : K) (refusal : Option KeeperRefusal) (new : K) → loading old refusal new
+      → IsUnchanged kept lasting old new ⊎ AllLast kept lasting old new (kept old)
   pub syncs : (old : K) (ok : Bool) (new : K) → syncing old ok new → kept new ≡ kept old
 
 -- a coordinator that is down has no ledger
@@ -46,14 +66,18 @@ abbrev pub memory_of : Bool → Ledger → Option Ledger
 memory_of true q = None
 memory_of false q = Some q
 
+-- a process that is gone, and these texts are on its disk
+abbrev pub gone_with : Texts → Coordinator
+gone_with texts = record { memory = None; disk = saved_in texts }
+
 module _ {K : Type 0} (kept : K → Texts) (seen : Seen K) where
   -- the process that a coordinator is: its ledger while it is up, and on its disk what its keeper's texts hold
   abbrev pub process_of : Coordinator
   process_of = record { memory = memory_of seen.down (ledger seen.held); disk = saved_in (kept seen.keeper) }
 
-  -- a coordinator's process is gone, and its disk is what its keeper's texts held
-  abbrev pub killed_of : Coordinator
-  killed_of = record { memory = None; disk = saved_in (kept seen.keeper) }
+  -- while it is up all that is kept lasts
+  abbrev pub LastsWhileUp : (K → Texts) → Type 0
+  LastsWhileUp lasting = seen.down ≡ false → lasting seen.keeper ≡ kept seen.keeper
 
 -- each of these lines that says something to a coordinator was written by a process: that is the premise on the farm's
 -- key
@@ -109,7 +133,8 @@ batch_messages saving loading syncing kept lasting key limit lines text old new 
 
 -- ---- the rules
 
--- what a filter does with lines that come together the coordinator of processes may do, and what it writes it may write
+-- what a filter does with lines that come together the coordinator of processes may do, and what it writes it may
+-- write. What its disk has then lasts
 abbrev pub ABatchIsARun : {K : Type 0} → Saving K → Loading K → Syncing K → (K → Texts) → (K → Texts) → Type 0
 ABatchIsARun {K} saving loading syncing kept lasting =
     (sha : List ℕ → Digest) (key : List ℕ) (limit : ℕ) (lines : List (List ℕ)) (text : List ℕ) (old new : Seen K)
@@ -117,7 +142,8 @@ ABatchIsARun {K} saving loading syncing kept lasting =
     → p.coordinator ≡ process_of kept old → AreOfTheFarm key lines p.written
     → (b : Batch (filter_steps saving loading kept key) (Settles syncing loading kept lasting) limit lines text old new) →
     let messages : List Message = batch_messages saving loading syncing kept lasting key limit lines text old new b in
-    Runs sha farm_limits NODES p (with_coordinator p (process_of kept new) messages) × Says_all key messages text
+    Runs sha farm_limits NODES p (with_coordinator p (process_of kept new) messages) × LastsWhileUp kept new lasting
+    × Says_all key messages text
 
 -- where a filter is killed amid a batch, of which it answered these lines and wrote nothing, the rules let the
 -- coordinator be killed so: its disk may have what was decided of any of them
@@ -127,20 +153,37 @@ AKillIsARun {K} saving loading kept =
     (p : Processes)
     → p.coordinator ≡ process_of kept old → AreOfTheFarm key lines p.written
     → Answers (filter_steps saving loading kept key) limit old lines answers new
-    → Runs sha farm_limits NODES p (with_coordinator p (killed_of kept new) [])
+    → Runs sha farm_limits NODES p (with_coordinator p (gone_with (kept new.keeper)) [])
 
--- a coordinator that takes up what a keeper's texts hold is one that starts from its disk
-abbrev pub AStartIsARun : {K : Type 0} → Loading K → (K → Texts) → Type 0
-AStartIsARun {K} loading kept = (sha : List ℕ → Digest) (keeper : K) (new : Seen K) (p : Processes)
+-- where the power fails there, or in the sync that follows, what is left is what was decided of the first of the lines:
+-- at the batch's beginning all that was kept lasted
+abbrev pub APowerFailureIsARun : {K : Type 0} → Saving K → Loading K → (K → Texts) → (K → Texts) → Type 0
+APowerFailureIsARun {K} saving loading kept lasting =
+    (sha : List ℕ → Digest) (key : List ℕ) (limit : ℕ) (lines answers : List (List ℕ)) (old new : Seen K)
+    (left : Texts) (p : Processes)
+    → p.coordinator ≡ process_of kept old → lasting old.keeper ≡ kept old.keeper → AreOfTheFarm key lines p.written
+    → Answers (filter_steps saving loading kept key) limit old lines answers new
+    → IsLeft (lasting new.keeper) (kept new.keeper) left
+    → Runs sha farm_limits NODES p (with_coordinator p (gone_with left) [])
+
+-- a coordinator that takes up what a keeper's texts hold is one that starts from its disk. All of that lasts
+abbrev pub AStartIsARun : {K : Type 0} → Loading K → (K → Texts) → (K → Texts) → Type 0
+AStartIsARun {K} loading kept lasting = (sha : List ℕ → Digest) (keeper : K) (new : Seen K) (p : Processes)
     → p.coordinator.disk ≡ saved_in (kept keeper) → TakesUp loading (kept keeper) keeper new
-    → Runs sha farm_limits NODES p (with_coordinator p (process_of kept new) [])
+    → Runs sha farm_limits NODES p (with_coordinator p (process_of kept new) []) × LastsWhileUp kept new lasting
 
 -- the same over a keeper in files that gathers
+abbrev pub file_saves : Saving Filed
+file_saves = GatherSaves (λ f. f.texts) FileGathers FileSaves
+
 abbrev pub ABatchOverFilesIsARun : Type 0
-ABatchOverFilesIsARun = ABatchIsARun (GatherSaves FileGathers FileSaves) FileLoads FileSyncs (λ f. f.texts) file_texts
+ABatchOverFilesIsARun = ABatchIsARun file_saves FileLoads FileSyncs (λ f. f.texts) file_texts
 
 abbrev pub AKillOverFilesIsARun : Type 0
-AKillOverFilesIsARun = AKillIsARun (GatherSaves FileGathers FileSaves) FileLoads (λ f. f.texts)
+AKillOverFilesIsARun = AKillIsARun file_saves FileLoads (λ f. f.texts)
+
+abbrev pub APowerFailureOverFilesIsARun : Type 0
+APowerFailureOverFilesIsARun = APowerFailureIsARun file_saves FileLoads (λ f. f.texts) file_texts
 
 abbrev pub AStartOverFilesIsARun : Type 0
-AStartOverFilesIsARun = AStartIsARun FileLoads (λ f. f.texts)
+AStartOverFilesIsARun = AStartIsARun FileLoads (λ f. f.texts) file_texts

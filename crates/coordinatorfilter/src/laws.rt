@@ -7,9 +7,11 @@ ghost use Rattle.coordinatorfilter.specs.Rules.{
   IsHonest,
   ABatchIsARun,
   AKillIsARun,
+  APowerFailureIsARun,
   AStartIsARun,
   ABatchOverFilesIsARun,
   AKillOverFilesIsARun,
+  APowerFailureOverFilesIsARun,
   AStartOverFilesIsARun,
 };
 
@@ -21,9 +23,9 @@ pub fn what_is_read_can_be_handled()
 {}
 
 /// What a filter does with lines that come together the coordinator of protocol's processes may do, with the messages of what it
-/// writes. So what is proved of processes holds of it.
+/// writes; and what its disk has then lasts. So what is proved of processes holds of it.
 pub fn a_batch_is_a_run<K: Keeper>()
-    ensures { IsHonest K.saving K.loading K.syncing K.kept → ABatchIsARun K.saving K.loading K.syncing K.kept K.lasting }
+    ensures { IsHonest K.saving K.loading K.syncing K.kept K.lasting → ABatchIsARun K.saving K.loading K.syncing K.kept K.lasting }
 {}
 
 /// The same over a `FileKeeper` that gathers.
@@ -34,16 +36,22 @@ pub fn a_batch_over_files_is_a_run()
 /// Where a filter is killed before what it answered is written, its coordinator is one that was killed: its record has what was decided
 /// of the lines so far, or of the first of them.
 pub fn a_kill_is_a_run<K: Keeper>()
-    ensures { IsHonest K.saving K.loading K.syncing K.kept → AKillIsARun K.saving K.loading K.kept }
+    ensures { IsHonest K.saving K.loading K.syncing K.kept K.lasting → AKillIsARun K.saving K.loading K.kept }
+{}
+
+/// Where the power fails there, or in the sync that follows, its record has what was decided of the first of the lines.
+pub fn a_power_failure_is_a_run<K: Keeper>()
+    ensures { IsHonest K.saving K.loading K.syncing K.kept K.lasting → APowerFailureIsARun K.saving K.loading K.kept K.lasting }
 {}
 
 /// A coordinator that takes up its keeper's texts is one that starts from its record.
 pub fn a_start_is_a_run<K: Keeper>()
-    ensures { IsHonest K.saving K.loading K.syncing K.kept → AStartIsARun K.loading K.kept }
+    ensures { IsHonest K.saving K.loading K.syncing K.kept K.lasting → AStartIsARun K.loading K.kept K.lasting }
 {}
 
-/// Both over a `FileKeeper` that gathers.
+/// All three over a `FileKeeper` that gathers.
 pub fn kills_and_starts_over_files_are_runs()
     ensures kills { AKillOverFilesIsARun }
+    ensures power_failures { APowerFailureOverFilesIsARun }
     ensures starts { AStartOverFilesIsARun }
 {}

@@ -3,7 +3,7 @@ use Rattle.std.specs.Prelude.{◌≡◌, ◌⊎◌, ℕ, Bool, true, false, List
 use Rattle.filekeeper.specs.Calls.{Called}
 use Rattle.filekeeper.specs.Settled.{HasRead}
 use Rattle.saverecord.specs.Keepers.{counted_up}
-use Rattle.saverecord.specs.Texts.{Texts}
+use Rattle.saverecord.specs.Texts.{Texts, with_text, with_texts}
 use Rattle.saverecord.specs.declared.refusal.KeeperRefusal.{KeeperRefusal}
 use Rattle.saverecord.specs.declared.refusal.KeeperRefusal.TheVariants.{Fault, OutOfMemory}
 
@@ -50,9 +50,9 @@ abbrev pub FileSaves : Filed → Texts → Bool → Filed → Type 0
 FileSaves f texts true g = (f.settled ≡ true) × (g ≡ left_by g.calls true (lasts (record f { texts = texts })))
 FileSaves f texts false g = MayCall (failed_once f) g ⊎ ((f.settled ≡ true) × (g ≡ left_by g.calls g.settled (failed_once (lasts (record f { texts = texts })))))
 
--- an entry that is gathered over files: these stay as they were
+-- an entry that is gathered over files: these stay as they were, and what they hold
 abbrev pub FileGathers : Filed → Texts → Filed → Type 0
-FileGathers f texts g = g ≡ record f { texts = texts }
+FileGathers f texts g = (g ≡ record f { texts = texts }) × (file_texts g ≡ file_texts f)
 
 -- a sync over files, which succeeds only where these are settled: if it fails that is counted, and no texts change
 abbrev pub FileSyncs : Filed → Bool → Filed → Type 0
@@ -65,6 +65,20 @@ FileLoads f (Some Fault) g = (g ≡ left_by g.calls g.settled (failed_once f)) �
 FileLoads f (Some OutOfMemory) g = g ≡ left_by g.calls g.settled (lasts f)
 FileLoads f None g = g ≡ left_by g.calls true (lasts f)
 
+-- an entry is gathered behind what is kept
+pub record GathersEntry {K : Type 0} (kept : K → Texts) (gathering : K → Texts → K → Type 0) (old : K) (texts : Texts)
+    (new : K) : Type 0 where
+  pub entry : List ℕ
+  pub texts_are : texts ≡ with_text entry (kept old)
+  pub left : gathering old texts new
+
 -- a save or an append over a keeper that gathers: an entry is gathered, and a whole record saved
-abbrev pub GatherSaves : {K : Type 0} → (K → Texts → K → Type 0) → (K → Texts → Bool → K → Type 0) → K → Texts → Bool → K → Type 0
-GatherSaves gathering saving old texts ok new = ((ok ≡ true) × gathering old texts new) ⊎ saving old texts ok new
+abbrev pub GatherSaves : {K : Type 0} → (K → Texts) → (K → Texts → K → Type 0) → (K → Texts → Bool → K → Type 0) → K → Texts → Bool → K → Type 0
+GatherSaves kept gathering saving old texts ok new = ((ok ≡ true) × GathersEntry kept gathering old texts new) ⊎ saving old texts ok new
+
+-- what a crash leaves of kept texts, of which these last: they, and of the entries that were gathered behind them the first ones, or none
+pub record IsLeft (lasting kept left : Texts) : Type 0 where
+  pub first : List (List ℕ)
+  pub rest : List (List ℕ)
+  pub left_is : left ≡ with_texts first lasting
+  pub kept_is : kept ≡ with_texts rest left

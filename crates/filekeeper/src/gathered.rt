@@ -41,7 +41,7 @@ impl<K: Keeper> Keeper for Gathered<K> {
 
     ghost failed = { K.failed };
 
-    ghost saving = { GatherSaves K.gathering K.saving };
+    ghost saving = { GatherSaves K.kept K.gathering K.saving };
 
     ghost loading = { K.loading };
 

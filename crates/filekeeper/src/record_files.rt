@@ -175,6 +175,7 @@ impl<D: Device> RecordFiles<D> {
         ensures ok { OnOk result (texts_in self.new ≡ with_text entry.items (texts_in self.old)) }
         ensures err { OnErr result (texts_in self.new ≡ texts_in self.old) }
         ensures lasts { how_many_last self.new ≡ how_many_last self.old }
+        ensures lasting { lasting_in self.new ≡ lasting_in self.old }
         ensures settled { is_settled self.new ≡ is_settled self.old }
         ensures calls { calls_in self.new ≡ calls_in self.old }
     {

@@ -101,27 +101,6 @@ batch_messages kept last_life limit lines text old new b = messages_of kept last
 
 -- ---- the rules
 
--- what a node's filter does with lines that come together a node of the processes may do, and what it writes that may
--- write
-abbrev pub ABatchIsARun : {S : Type 0} → Kept S → (S → ℕ) → Type 0
-ABatchIsARun {S} kept last_life =
-    (limit : ℕ) (lines : List (List ℕ)) (text : List ℕ) (old new : NodeFilter S) (p : Processes)
-    → IsNodeOf p (seen old) → AreOfTheFarm (seen old).key (seen old).me lines p.written
-    → (b : Batch (node_steps kept last_life) IsSettled limit lines text old new) →
-    let messages : List Message = batch_messages kept last_life limit lines text old new b in
-    Runs content_digest farm_limits NODES p (with_node p (seen old).me (seen new).node messages)
-    × Says_all (seen old).key messages text
-
--- where the filter is killed amid a batch, of which it answered these lines and wrote nothing, the rules let the node
--- come as far, and write as little. Its asks are as they were until its next life begins, since an execution may
--- outlast its process
-abbrev pub AKillIsARun : {S : Type 0} → Kept S → (S → ℕ) → Type 0
-AKillIsARun {S} kept last_life =
-    (limit : ℕ) (lines answers : List (List ℕ)) (old new : NodeFilter S) (p : Processes)
-    → IsNodeOf p (seen old) → AreOfTheFarm (seen old).key (seen old).me lines p.written
-    → Answers (node_steps kept last_life) limit old lines answers new
-    → Runs content_digest farm_limits NODES p (with_node p (seen old).me (seen new).node [])
-
 -- what a process begins from is what the node of the processes has: a life that isn't below its last one, and of its
 -- contents those that were found, the empty one among them. Others are lost
 pub record IsLeftOf {S : Type 0} (p : Processes) (origin : Origin S) : Type 0 where
@@ -131,9 +110,31 @@ pub record IsLeftOf {S : Type 0} (p : Processes) (origin : Origin S) : Type 0 wh
   pub found : All (λ (c : List ℕ). (p.nodes origin.me.0).store (content_digest c) ≡ Some c) origin.contents.items
   pub empty : (p.nodes origin.me.0).store (content_digest []) ≡ Some []
 
--- a process that begins so is a node that lost the rest, and then begins its next life: its greeting says it
-abbrev pub AStartIsARun : {S : Type 0} → Kept S → (S → ℕ) → Type 0
-AStartIsARun {S} kept last_life = (origin : Origin S) (started : Started S) (p : Processes)
-    → IsLeftOf p origin → (begins : Begins kept last_life origin started)
-    → Runs content_digest farm_limits NODES p (with_node p origin.me (seen started.filter).node begins.done.sends)
-    × Says_all origin.key begins.done.sends (string_bytes started.greeting)
+module _ {S : Type 0} (kept : Kept S) (last_life : S → ℕ) where
+  -- what a node's filter does with lines that come together a node of the processes may do, and what it writes that may
+  -- write
+  abbrev pub ABatchIsARun : Type 0
+  ABatchIsARun =
+      (limit : ℕ) (lines : List (List ℕ)) (text : List ℕ) (old new : NodeFilter S) (p : Processes)
+      → IsNodeOf p (seen old) → AreOfTheFarm (seen old).key (seen old).me lines p.written
+      → (b : Batch (node_steps kept last_life) IsSettled limit lines text old new) →
+      let messages : List Message = batch_messages kept last_life limit lines text old new b in
+      Runs content_digest farm_limits NODES p (with_node p (seen old).me (seen new).node messages)
+      × Says_all (seen old).key messages text
+
+  -- where the filter is killed amid a batch, of which it answered these lines and wrote nothing, the rules let the node
+  -- come as far, and write as little. Its asks are as they were until its next life begins, since an execution may
+  -- outlast its process
+  abbrev pub AKillIsARun : Type 0
+  AKillIsARun =
+      (limit : ℕ) (lines answers : List (List ℕ)) (old new : NodeFilter S) (p : Processes)
+      → IsNodeOf p (seen old) → AreOfTheFarm (seen old).key (seen old).me lines p.written
+      → Answers (node_steps kept last_life) limit old lines answers new
+      → Runs content_digest farm_limits NODES p (with_node p (seen old).me (seen new).node [])
+
+  -- a process that begins so is a node that lost the rest, and then begins its next life: its greeting says it
+  abbrev pub AStartIsARun : Type 0
+  AStartIsARun = (origin : Origin S) (started : Started S) (p : Processes)
+      → IsLeftOf p origin → (begins : Begins kept last_life origin started)
+      → Runs content_digest farm_limits NODES p (with_node p origin.me (seen started.filter).node begins.done.sends)
+      × Says_all origin.key begins.done.sends (string_bytes started.greeting)

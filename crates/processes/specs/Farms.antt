@@ -1,11 +1,11 @@
 -- A farm of these programs: a coordinator over a record in files, and nodes over folders (this project's own). Its
 -- premises are those of protocol's processes, in whose words it is told.
-use Rattle.std.specs.Prelude.{◌≡◌, ℕ, List, []}
+use Rattle.std.specs.Prelude.{◌≡◌, ℕ, true, List, []}
 use Rattle.coordinator.specs.Seen.{Seen}
 use Rattle.coordinator.specs.Settling.{TakesUp}
 use Rattle.names.specs.Contents.{content_digest}
 use Rattle.names.specs.declared.limits.TheConstants.{NODES}
-use Rattle.filekeeper.specs.Keepers.{Filed, GatherSaves, FileGathers, FileSaves, FileLoads, FileSyncs, file_texts}
+use Rattle.filekeeper.specs.Keepers.{Filed, FileLoads, FileSyncs, IsLeft, file_texts}
 use Rattle.nodefilter.specs.declared.filter.NodeFilter.{NodeFilter}
 use Rattle.nodefilter.specs.declared.starting.Origin.{Origin}
 use Rattle.nodefilter.specs.declared.starting.Started.{Started}
@@ -20,16 +20,12 @@ use Rattle.protocol.specs.Farm.{farm_limits}
 use Rattle.protocol.specs.Processes.{Processes, Runs, StaySafe, first_processes}
 use Rattle.saverecord.specs.Logs.{saved_in}
 use Rattle.saverecord.specs.Texts.{Texts}
-use Rattle.coordinatorfilter.specs.Carried.{Saving}
-use Rattle.coordinatorfilter.specs.Rules.{process_of, killed_of, with_coordinator, AreOfTheFarm, filter_steps, batch_messages}
+use Rattle.coordinatorfilter.specs.Rules.{process_of, gone_with, with_coordinator, file_saves, AreOfTheFarm, filter_steps, batch_messages}
 use Rattle.services.specs.Served.{Answers, Batch}
 use Rattle.coordinatorfilter.specs.Written.{Settles}
 
 abbrev pub texts_of : Filed → Texts
 texts_of f = f.texts
-
-abbrev pub saves : Saving Filed
-saves = GatherSaves FileGathers FileSaves
 
 -- the last life that a node's folder has
 abbrev pub last_life : store.Filed → ℕ
@@ -41,13 +37,20 @@ pub data Does (key : List ℕ) (p : Processes) : Processes → Type 0 where
   -- the coordinator answers lines that come together
   Answers_lines : (limit : ℕ) (lines : List (List ℕ)) (text : List ℕ) (old new : Seen Filed)
       → p.coordinator ≡ process_of texts_of old → AreOfTheFarm key lines p.written
-      → (b : Batch (filter_steps saves FileLoads texts_of key) (Settles FileSyncs FileLoads texts_of file_texts) limit lines text old new)
-      → Does key p (with_coordinator p (process_of texts_of new) (batch_messages saves FileLoads FileSyncs texts_of file_texts key limit lines text old new b))
+      → (b : Batch (filter_steps file_saves FileLoads texts_of key) (Settles FileSyncs FileLoads texts_of file_texts) limit lines text old new)
+      → Does key p (with_coordinator p (process_of texts_of new) (batch_messages file_saves FileLoads FileSyncs texts_of file_texts key limit lines text old new b))
   -- it is killed when it has answered some, but written nothing
   Is_killed : (limit : ℕ) (lines answers : List (List ℕ)) (old new : Seen Filed)
       → p.coordinator ≡ process_of texts_of old → AreOfTheFarm key lines p.written
-      → Answers (filter_steps saves FileLoads texts_of key) limit old lines answers new
-      → Does key p (with_coordinator p (killed_of texts_of new) [])
+      → Answers (filter_steps file_saves FileLoads texts_of key) limit old lines answers new
+      → Does key p (with_coordinator p (gone_with new.keeper.texts) [])
+  -- the power fails then, or in the sync that follows. Before the lines came all texts lasted, as they do whenever lines
+  -- were answered and the coordinator is up, and no save has failed since
+  Power_fails : (limit : ℕ) (lines answers : List (List ℕ)) (old new : Seen Filed) (left : Texts)
+      → p.coordinator ≡ process_of texts_of old → file_texts old.keeper ≡ old.keeper.texts → AreOfTheFarm key lines p.written
+      → Answers (filter_steps file_saves FileLoads texts_of key) limit old lines answers new
+      → new.keeper.settled ≡ true → IsLeft (file_texts new.keeper) new.keeper.texts left
+      → Does key p (with_coordinator p (gone_with left) [])
   -- it starts from what its files hold
   Starts : (keeper : Filed) (new : Seen Filed) → p.coordinator.disk ≡ saved_in keeper.texts
       → TakesUp FileLoads keeper.texts keeper new

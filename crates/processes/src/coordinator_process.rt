@@ -6,9 +6,11 @@ ghost use Rattle.coordinatorfilter.specs.Rules.{
   IsHonest,
   ABatchIsARun,
   AKillIsARun,
+  APowerFailureIsARun,
   AStartIsARun,
   ABatchOverFilesIsARun,
   AKillOverFilesIsARun,
+  APowerFailureOverFilesIsARun,
   AStartOverFilesIsARun,
 };
 
@@ -19,8 +21,8 @@ use super::kept::started;
 use super::laws::a_farm_is_safe;
 use coordinatorfilter::CoordinatorFilter;
 use coordinatorfilter::laws::{
-    a_batch_is_a_run, a_batch_over_files_is_a_run, a_kill_is_a_run, a_start_is_a_run,
-    kills_and_starts_over_files_are_runs,
+    a_batch_is_a_run, a_batch_over_files_is_a_run, a_kill_is_a_run, a_power_failure_is_a_run,
+    a_start_is_a_run, kills_and_starts_over_files_are_runs,
 };
 use saverecord::Keeper;
 use services::serve;
@@ -54,12 +56,14 @@ pub fn serve_coordinator<K: Keeper, R: Read + Drop, W: Write>(
     ensures served { OnOk result (IfSome (R.remaining reader) (λ text. IsServed K.saving K.loading K.syncing K.kept K.lasting filter.old.key text
         filter.old.coordinator filter.new.coordinator (W.contents writer.old) (W.contents writer.new))) }
     // So it is the coordinator of protocol's processes, whatever lines come, and wherever it is killed and started again.
-    ensures process { IsHonest K.saving K.loading K.syncing K.kept → ABatchIsARun K.saving K.loading K.syncing K.kept K.lasting }
-    ensures killed { IsHonest K.saving K.loading K.syncing K.kept → AKillIsARun K.saving K.loading K.kept }
-    ensures started { IsHonest K.saving K.loading K.syncing K.kept → AStartIsARun K.loading K.kept }
+    ensures process { IsHonest K.saving K.loading K.syncing K.kept K.lasting → ABatchIsARun K.saving K.loading K.syncing K.kept K.lasting }
+    ensures killed { IsHonest K.saving K.loading K.syncing K.kept K.lasting → AKillIsARun K.saving K.loading K.kept }
+    ensures power_failed { IsHonest K.saving K.loading K.syncing K.kept K.lasting → APowerFailureIsARun K.saving K.loading K.kept K.lasting }
+    ensures started { IsHonest K.saving K.loading K.syncing K.kept K.lasting → AStartIsARun K.loading K.kept K.lasting }
 {
     a_batch_is_a_run::<K>();
     a_kill_is_a_run::<K>();
+    a_power_failure_is_a_run::<K>();
     a_start_is_a_run::<K>();
     serve(
         alloc,
@@ -97,6 +101,7 @@ pub fn run_coordinator<R: Files<File = File> + Input + AllocGlobal, W: Write>(
 ) -> Result<(), ProcessFault>
     ensures process { ABatchOverFilesIsARun }
     ensures killed { AKillOverFilesIsARun }
+    ensures power_failed { APowerFailureOverFilesIsARun }
     ensures started { AStartOverFilesIsARun }
     // With such nodes as `run_node` it is a farm of which the headline holds.
     ensures farm { EveryFarmStaysSafe }
