@@ -172,10 +172,11 @@ AStartIsARun {K} loading kept lasting = (sha : List ℕ → Digest) (keeper : K)
     → p.coordinator.disk ≡ saved_in (kept keeper) → TakesUp loading (kept keeper) keeper new
     → Runs sha farm_limits NODES p (with_coordinator p (process_of kept new) []) × LastsWhileUp kept new lasting
 
--- the same over a keeper in files that gathers
+-- the saves of a keeper in files that gathers
 abbrev pub file_saves : Saving Filed
 file_saves = GatherSaves (λ f. f.texts) FileGathers FileSaves
 
+-- the same over such a keeper
 abbrev pub ABatchOverFilesIsARun : Type 0
 ABatchOverFilesIsARun = ABatchIsARun file_saves FileLoads FileSyncs (λ f. f.texts) file_texts
 

@@ -44,8 +44,8 @@ pub data Does (key : List ℕ) (p : Processes) : Processes → Type 0 where
       → p.coordinator ≡ process_of texts_of old → AreOfTheFarm key lines p.written
       → Answers (filter_steps file_saves FileLoads texts_of key) limit old lines answers new
       → Does key p (with_coordinator p (gone_with new.keeper.texts) [])
-  -- the power fails then, or in the sync that follows. Before the lines came all texts lasted, as they do whenever lines
-  -- were answered and the coordinator is up, and no save has failed since
+  -- the power fails then, or in the sync that follows. Before the lines came all texts lasted, as they do while a
+  -- coordinator is up and answers nothing, and no save has failed since
   Power_fails : (limit : ℕ) (lines answers : List (List ℕ)) (old new : Seen Filed) (left : Texts)
       → p.coordinator ≡ process_of texts_of old → file_texts old.keeper ≡ old.keeper.texts → AreOfTheFarm key lines p.written
       → Answers (filter_steps file_saves FileLoads texts_of key) limit old lines answers new
