@@ -10,6 +10,7 @@ import fcntl
 import hashlib
 import json
 import os
+import pathlib
 import random
 import re
 import shutil
@@ -288,6 +289,19 @@ def place_of(path: str, cwd: str) -> str:
     if os.path.islink(whole):
         raise FarmFault(f"{whole} is a link: name the folder itself")
     return os.path.join(os.path.realpath(os.path.dirname(whole)), os.path.basename(whole))
+
+
+def check_outside(path: str, own: str) -> None:
+    """Refuses a path within a folder of the farm's own, or around it, by whichever names both are reached."""
+    if _is_reached_within(path, own):
+        raise UsageFault(f"{path} lies within {own}, which is the farm's own: name a path outside it")
+    if _is_reached_within(own, path):
+        raise UsageFault(f"{path} holds {own}, which is the farm's own: name a path beside it")
+
+
+def _is_reached_within(path: str, folder: str) -> bool:
+    around = [path, *map(str, pathlib.PurePath(path).parents)]
+    return os.path.exists(folder) and any(os.path.samefile(each, folder) for each in around if os.path.exists(each))
 
 
 def check_apart(paths: list[str]) -> None:

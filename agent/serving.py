@@ -20,6 +20,7 @@ from agent.faults import LOST, FarmFault, UsageFault, tell
 from agent.hints import Hints, make_key
 from agent.lines import line_of
 from agent.node import NodeAgent, Setup
+from agent.places import check_outside
 from agent.redis_store import RedisStore
 from agent.redis_transport import RedisTransport
 from agent.runs import Job, Run
@@ -206,7 +207,11 @@ def answer_command(agent: NodeAgent, builds: Builds, wanted: Wanted, asked: dict
             asked["command"], asked["cwd"], asked["env"], wants, asked["wait"], asked["on_lost"] == "stop",
             fenced_status=uncounted, lost_status=uncounted, umask=asked["umask"],
         )
-        return Run(agent, job, link).run()
+        run = Run(agent, job, link)
+        for path in run.paths.values():
+            for own in filter(None, (wanted.home, wanted.contents)):
+                check_outside(path, own)
+        return run.run()
     if asked["do"] == "build":
         return Build(builds, BuildAsked(**asked["build"]), link).run()
     if asked["do"] == "forget":

@@ -99,7 +99,7 @@ class FarmTest(RoomTest):
     def up(self, *words: str) -> subprocess.Popen[str]:
         """Starts a part of the farm, and waits until it stands."""
         started = subprocess.Popen(
-            [*FARM, *words], env=self.env, stdout=subprocess.PIPE, text=True, stdin=subprocess.DEVNULL
+            [*FARM, *words], env=self.env, stdout=subprocess.PIPE, text=True, stdin=subprocess.DEVNULL, cwd=self.room
         )
         self.ups.append(started)
         assert started.stdout

@@ -70,6 +70,22 @@ class Alone(support.FarmTest):
         self.farm("run", "--folder", "locked:c=w", "--", "sh", "-c", "ls w > seen")
         self.assertEqual(self.read("seen"), "")
 
+    def test_own_home(self) -> None:
+        """No command gets what is the farm's own, by whichever name."""
+        self.up("up", "--nodes", "1", "--home", "sub/home", "--contents", "kept")
+        os.symlink(self.path("sub"), self.path("link"))
+        room = os.path.realpath(self.room)
+        rows = [("sub/home/x", "sub/home/x lies within", "sub/home"), ("link/home/node1/filter", "sub/home/node1/filter lies within", "sub/home"),
+                ("sub/home", "sub/home lies within", "sub/home"), ("link/../sub", "sub holds", "sub/home"), ("kept/chunks/new/x", "kept/chunks/new/x lies within", "kept"),
+                (".", " holds", "sub/home"), ("/", " holds", "sub/home")]
+        for path, said, own in rows:
+            done = self.farm("run", "--home", "link/home", "--folder", f"locked:c={path}", "--", "touch", self.path("ran"), status=64)
+            self.assertRegex(done.stderr, rf"\Afarm: {room if said[0] != ' ' else '/'}[^\n]*{said} {room}/{own}, which is the farm's own: [^\n]*\n\Z", path)
+        for path in ("sub/w", "sub/homes", "keptx"):
+            self.farm("run", "--home", "sub/home", "--folder", f"locked:c={path}", "--", "true")
+        self.assertIn("version 3 ticket 3 ", self.asked("log", "--home", self.path("sub/home"), "locked:c"))  # no lease was asked for before
+        self.assertFalse(os.path.exists(self.path("ran")))
+
     def test_starting(self) -> None:
         """A farm whose nodes are about to stand is waited for. A log that has become long is put aside."""
         os.makedirs(self.home)
