@@ -43,10 +43,17 @@ def seconds(text: str) -> float:
     return float(text)
 
 
+def path(text: str) -> str:
+    """A path that is named: an empty one, as of a variable that isn't set, would be the folder that this is called in."""
+    if not text:
+        raise ValueError
+    return text
+
+
 def _verb(verbs: Any, name: str, does: Callable[[argparse.Namespace], int], text: str, example: str) -> argparse.ArgumentParser:
     made: argparse.ArgumentParser = verbs.add_parser(name, help=text, description=text, epilog=f"example: {example}")
     made.set_defaults(does=does)
-    made.add_argument("--home", default=default_home(), help="the farm's folder on this machine (%(default)s, or FARM_HOME)")
+    made.add_argument("--home", type=path, default=default_home(), help="the farm's folder on this machine (%(default)s, or FARM_HOME)")
     return made
 
 
@@ -60,7 +67,7 @@ def _serving_words(verbs: Any) -> None:
     node.add_argument("number", type=int, metavar="N")
     for made in (up, coordinator, node):
         made.add_argument("--nodes", type=int, default=3, help="how many nodes the farm has (%(default)s)")
-        made.add_argument("--contents", metavar="FOLDER", help="where contents are kept: a folder that all machines see")
+        made.add_argument("--contents", type=path, metavar="FOLDER", help="where contents are kept: a folder that all machines see")
         made.add_argument("--verbose", action="store_true", help="says what the filters answer")
     for made in (up, coordinator):
         made.add_argument(
@@ -89,7 +96,7 @@ def _build_words(verbs: Any) -> None:
         verbs, "build", do_build, "builds a Dockerfile with its cache mounts leased", "farm build --node 1 -t app:latest ."
     )
     build.add_argument("--node", type=int)
-    build.add_argument("-f", "--file", metavar="Dockerfile")
+    build.add_argument("-f", "--file", type=path, metavar="Dockerfile")
     build.add_argument("-t", "--tag")
     build.add_argument("--build-arg", action="append", default=[], metavar="K=V")
     build.add_argument("--target", metavar="STAGE")
@@ -99,7 +106,7 @@ def _build_words(verbs: Any) -> None:
     build.add_argument("--shared-as", choices=["shared", "locked", "private"], default="shared", help="treats shared mounts so")
     build.add_argument("--keep-failed", action="store_true", help="commits also what a failed build left")
     build.add_argument("--tag-fenced", action="store_true", help="tags the image also where the lease had ended")
-    build.add_argument("context")
+    build.add_argument("context", type=path)
 
 
 def _asking_words(verbs: Any) -> None:
@@ -112,7 +119,7 @@ def _asking_words(verbs: Any) -> None:
     log.add_argument("folder")
     get = _verb(verbs, "get", do_get, "what a version holds, without a lease", "farm get locked:ccache@3 /tmp/third")
     get.add_argument("folder", metavar="FOLDER[@NUMBER]")
-    get.add_argument("to", metavar="DIR")
+    get.add_argument("to", type=path, metavar="DIR")
     withdraw = _verb(verbs, "withdraw", do_withdraw, "ends a lease: its holder's commit won't count", "farm withdraw 17")
     withdraw.add_argument("ticket", type=int, metavar="T")
     retire = _verb(verbs, "retire", do_retire, "ends a node for good", "farm retire 3")
@@ -336,8 +343,6 @@ def do_get(args: argparse.Namespace) -> int:
     found = [each for each in versions if number in (None, each["version"])]
     if not found:
         raise FarmFault(f"{folder} has the versions 1 to {len(versions)}")
-    if os.path.lexists(args.to) and (not os.path.isdir(args.to) or os.listdir(args.to)):
-        raise FarmFault(f"{args.to} is there: name a path that is free, or an empty folder")
     kept = ask_coordinator(args, {"do": "store"})
     wanted = serving.Wanted(args.home, True, [], 1, kept["broker"], kept["contents"])
     store = serving.store_of(wanted, Hints(f"{args.home}/key"))

@@ -139,7 +139,9 @@ def extract(
 
 
 def extract_whole(store: Store, index: bytes, path: str) -> None:
-    """Makes a path, which is free or an empty folder, what an index says, or leaves it as it was."""
+    """Makes a path, which has to be free or an empty folder, what an index says, or leaves it as it was."""
+    if os.path.lexists(path) and (not os.path.isdir(path) or os.listdir(path)):
+        raise FarmFault(f"{path} is there: name a path that is free, or an empty folder")
     try:
         _extract_whole(store, index, path)
     except NotMade:

@@ -146,7 +146,9 @@ class Alone(support.FarmTest):
                 (["node", "9", "--broker", "redis://127.0.0.1:1"], 64, "no node 9 of 3"), (["gc", "--keep", "0"], 64, "at least 1"),
                 (["run", "--wait", "nan", "--", "true"], 64, "invalid seconds value: 'nan'"), (["run", "--wait", "-1", "--", "true"], 64, "'-1'"),
                 (["run", "--home", self.path("x" * 90), "--", "true"], 64, "too long"), (["up", "--home", self.path("\udcff")], 64, "isn't UTF-8"),
-                (["status", "--home", self.path("x" * 90)], 70, "path too long")]
+                (["status", "--home", self.path("x" * 90)], 70, "path too long"), (["get", "locked:c", ""], 64, "DIR: invalid path value: ''"),
+                (["up", "--home", ""], 64, "--home: invalid path"), (["up", "--contents", ""], 64, "--contents: invalid path"),
+                (["build", ""], 64, "context: invalid path")]
         for words, status, said in rows:
             self.assertIn(said, self.asked(*words, status=status))
         gone = 'mkdir gone && cd gone && rmdir ../gone && exec "$@"'

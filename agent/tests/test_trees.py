@@ -109,6 +109,16 @@ class Trees(support.RoomTest):
         trees.extract(self.store, index, self.path("out"))
         self.assertEqual(os.listdir(self.path("out")), [])
 
+    def test_in_the_way(self) -> None:
+        """What is at a path already stays, whatever the content."""
+        self.write("mine/f", "x")
+        os.symlink("nowhere", self.path("link"))
+        for name in ("mine", "mine/f", "link"):
+            for index in (b"", b"no index"):
+                with self.assertRaisesRegex(FarmFault, f"{name} is there: name a path"):
+                    trees.extract_whole(self.store, index, self.path(name))
+        self.assertEqual((self.read("mine/f"), os.listdir(self.path("mine"))), ("x", ["f"]))
+
     def test_lost_and_damaged(self) -> None:
         index, digest = trees.keep(self.store, self.tree())
         with self.assertRaises(FarmFault):
