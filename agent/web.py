@@ -14,6 +14,7 @@ import re
 import signal
 import socket
 import socketserver
+import sys
 import threading
 from typing import Any, Callable
 
@@ -61,6 +62,11 @@ class Server(http.server.ThreadingHTTPServer):
             self.socket.setsockopt(socket.IPPROTO_IPV6, socket.IPV6_V6ONLY, 0)
         socketserver.TCPServer.server_bind(self)
         self.server_port = self.server_address[1]
+
+    def handle_error(self, request: Any, client_address: Any) -> None:
+        """Who asked may be gone again: that is no fault."""
+        if not isinstance(sys.exception(), OSError):
+            super().handle_error(request, client_address)
 
     def may_ask(self, host: str) -> bool:
         """Whether a request's Host is one of this server's. Else another site's name leads here, and its scripts would read the answer."""

@@ -1,7 +1,9 @@
 """The page with the farm's status."""
 from __future__ import annotations
 
+import contextlib
 import http.client
+import io
 import json
 import os
 import socket
@@ -82,6 +84,19 @@ class Answers(Served):
         self.assertEqual(self.get(port, "/status.json", Host="evil.example")[0], 403)
         self.assertEqual(self.get(port, "/", Host=f"localhost:{port}")[0], 200)
         self.assertEqual(self.get(self.serve("no farm answers"), "/status.json")[:2], (503, b"no farm answers"))
+
+    def test_gone(self) -> None:
+        """Who asks and is gone before the answer is nobody's fault."""
+        server = web.Server("127.0.0.1", 0, lambda: told(1, 1)["what"])
+        self.addCleanup(server.server_close)
+        host = f"Host: 127.0.0.1:{server.server_port}\r\n\r\n".encode()
+        for asked, said in ((b"GET / HTTP/1.1\r\n" + host, ""), (b"GET / HT", ""), (b"GET /status.json HTTP/1.1\r\n" + host, "KeyError: 'what'")):
+            ours, theirs = socket.socketpair()
+            theirs.sendall(asked)
+            theirs.close()
+            with contextlib.redirect_stderr(io.StringIO()) as heard:
+                server.process_request_thread(ours, ("", 0))
+            self.assertRegex(heard.getvalue(), f"{said}\\n" if said else r"\A\Z")
 
     @unittest.skipUnless(has_ipv6(), "there is no IPv6 here")
     def test_ipv6(self) -> None:
