@@ -6,9 +6,11 @@ Owes the filters nothing: it asks agents, and shows what they say.
 from __future__ import annotations
 
 import argparse
+import contextlib
 import fcntl
 import json
 import os
+import signal
 import sys
 import time
 from typing import Any, Callable, Iterator, Sequence
@@ -420,6 +422,22 @@ def main(words: Sequence[str] | None = None) -> int:
     return status
 
 
+@contextlib.contextmanager
+def interrupted() -> Iterator[None]:
+    """Signals that would end this process are heard as Ctrl-C is: what it had begun is put away, and the status is 75."""
+    def interrupt(_number: int, _frame: object) -> None:
+        raise KeyboardInterrupt
+
+    heard = [number for number in (signal.SIGTERM, signal.SIGHUP) if signal.getsignal(number) == signal.SIG_DFL]
+    for number in heard:
+        signal.signal(number, interrupt)
+    try:
+        yield
+    finally:
+        for number in heard:
+            signal.signal(number, signal.SIG_DFL)
+
+
 def status_of(words: Sequence[str] | None) -> int:
     try:
         args = parser().parse_args(words)
@@ -429,7 +447,8 @@ def status_of(words: Sequence[str] | None) -> int:
         args.home = os.path.abspath(args.home)
         if getattr(args, "contents", None):
             args.contents = os.path.abspath(args.contents)
-        return int(args.does(args))
+        with contextlib.nullcontext() if args.does in (do_up, do_coordinator, do_node) else interrupted():
+            return int(args.does(args))
     except FarmFault as fault:
         tell(str(fault))
         return fault.status

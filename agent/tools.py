@@ -51,4 +51,5 @@ def whole(process: subprocess.Popen[str], check: Callable[[], None], ending: int
                     check()
         except BaseException:
             process.send_signal(ending)
+            process.wait()  # also after Ctrl-C, which Python waits for a moment only
             raise

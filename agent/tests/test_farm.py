@@ -184,6 +184,35 @@ class Alone(support.FarmTest):
         done = subprocess.run([sys.executable, "-c", text, "run", "--", "true"], capture_output=True, text=True, timeout=support.PATIENCE)
         self.assertEqual((done.returncode, done.stderr), (75, ""))
 
+    def test_ended_while_starting(self) -> None:
+        """A signal that ends a command while its farm is being started came before the lease."""
+        program = self.write("program", f"#!/bin/sh\necho $PPID > {self.path('up.new')}\nmv {self.path('up.new')} {self.path('up')}\nread end\n")
+        os.chmod(program, 0o755)
+        self.env["FARMCTL"] = program
+        for number in (signal.SIGTERM, signal.SIGHUP, signal.SIGINT):
+            run = self.begin("run", "--", "touch", "ran")
+            self.wait_for(self.path("up"))
+            run.send_signal(number)
+            run.communicate(timeout=support.PATIENCE)
+            self.assertEqual((run.returncode, os.path.exists(self.path("ran"))), (75, False), number)
+            up = int(self.read("up"))
+            os.kill(up, signal.SIGKILL)
+            support.until(lambda: support.is_over(up))
+            os.unlink(self.path("up"))
+
+    def test_get_ended(self) -> None:
+        """What is shown of a version is whole, or nothing of it."""
+        self.farm("run", "--folder", "locked:c=w", "--", "touch", "w/f")
+        self.write("bin/casync", f'#!/bin/sh\nfor path; do :; done\ntouch $path/half\necho $$ > {self.path("pid")}.new\nmv {self.path("pid")}.new {self.path("pid")}\nexec sleep 300\n')
+        os.chmod(self.path("bin/casync"), 0o755)
+        self.env["PATH"] = f"{self.path('bin')}:{self.env['PATH']}"
+        get = self.begin("get", "locked:c", self.path("got"))
+        self.wait_for(self.path("pid"))
+        get.terminate()
+        self.assertEqual((get.communicate(timeout=support.PATIENCE), get.returncode), (("", ""), 75))
+        self.assertTrue(support.is_over(int(self.read("pid"))))
+        self.assertFalse(os.path.exists(self.path("got")))
+
     def test_missing_program(self) -> None:
         for program, said in (("/nowhere/farmctl", "isn't there"), ("/bin/false", "doesn't start as the coordinator")):
             self.env["FARMCTL"] = program
