@@ -9,6 +9,7 @@ import argparse
 import contextlib
 import fcntl
 import json
+import math
 import os
 import signal
 import sys
@@ -39,8 +40,8 @@ def parser() -> argparse.ArgumentParser:
 
 
 def seconds(text: str) -> float:
-    """A time that somebody may wait."""
-    if not float(text) >= 0:
+    """How long somebody may wait, or how old something is."""
+    if not 0 <= float(text) < math.inf:
         raise ValueError
     return float(text)
 
@@ -131,7 +132,7 @@ def _asking_words(verbs: Any) -> None:
     prune.add_argument("folder")
     gc = _verb(verbs, "gc", do_gc, "forgets what nothing needs, on this machine", "farm gc --keep 3")
     gc.add_argument("--keep", type=int, default=1, metavar="K", help="keeps the last K versions of each folder (%(default)s)")
-    gc.add_argument("--grace", type=float, default=3600, metavar="SECONDS", help="keeps what is younger (%(default)s)")
+    gc.add_argument("--grace", type=seconds, default=3600, metavar="SECONDS", help="keeps what is younger (%(default)s)")
 
 
 # Serving.

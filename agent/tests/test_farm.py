@@ -145,12 +145,16 @@ class Alone(support.FarmTest):
                 (["run", "--home", self.path("my home"), "--", "true"], 64, "has a space"),
                 (["node", "9", "--broker", "redis://127.0.0.1:1"], 64, "no node 9 of 3"), (["gc", "--keep", "0"], 64, "at least 1"),
                 (["run", "--wait", "nan", "--", "true"], 64, "invalid seconds value: 'nan'"), (["run", "--wait", "-1", "--", "true"], 64, "'-1'"),
+                (["gc", "--grace", "-1"], 64, "invalid seconds"), (["gc", "--grace", "inf"], 64, "invalid seconds"),
+                *[(["coordinator", "--broker", f"redis://{host}"], 64, "URL can't be read") for host in ("[::1", "h:x", "h:99999", ":se#ret@h")],
                 (["run", "--home", self.path("x" * 90), "--", "true"], 64, "too long"), (["up", "--home", self.path("\udcff")], 64, "isn't UTF-8"),
                 (["status", "--home", self.path("x" * 90)], 70, "path too long"), (["get", "locked:c", ""], 64, "DIR: invalid path value: ''"),
                 (["up", "--home", ""], 64, "--home: invalid path"), (["up", "--contents", ""], 64, "--contents: invalid path"),
                 (["build", ""], 64, "context: invalid path")]
         for words, status, said in rows:
-            self.assertIn(said, self.asked(*words, status=status))
+            heard = self.asked(*words, status=status)
+            self.assertIn(said, heard)
+            self.assertNotIn("'se", heard)  # of a password
         gone = 'mkdir gone && cd gone && rmdir ../gone && exec "$@"'
         for call in (["run", "--", "true"], ["build", self.room]):
             done = subprocess.run(["sh", "-c", gone, "sh", *FARM, *call], cwd=self.room, env=self.env, capture_output=True, text=True)
