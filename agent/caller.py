@@ -9,6 +9,8 @@ from typing import Callable, Protocol
 
 from agent.faults import ClientGone, WaitOver
 
+MOMENT = 1.0  # seconds in which a lease of what is free is granted: who would wait for less gets it too
+
 
 class Caller(Protocol):
     streams: list[int]  # its standard input, output and error
@@ -25,7 +27,7 @@ class Patience:
     def __init__(self, caller: Caller | None, seconds: float | None, of_shared: str = "") -> None:
         self.caller = caller
         self.of_shared = of_shared  # what is said beside where it waits for a SHARED folder
-        self.end = None if seconds is None else time.monotonic() + seconds
+        self.end = None if seconds is None else time.monotonic() + max(seconds, MOMENT)
         self.seconds = seconds
 
     def check(self) -> None:

@@ -88,7 +88,7 @@ def _run_words(verbs: Any) -> None:
     )
     run.add_argument("--node", type=int, help="the node that runs it (the first one here)")
     run.add_argument("--folder", action="append", default=[], metavar="[ro=]FOLDER=PATH", help="locked:ID, private:ID or shared:ID")
-    run.add_argument("--wait", type=seconds, metavar="SECONDS", help="waits no longer for the lease: then the status is 75")
+    run.add_argument("--wait", type=seconds, metavar="SECONDS", help="waits no longer for the lease, and for 0 only takes what is free: else the status is 75")
     run.add_argument("--must-commit", action="store_true", help="status 75 where what the command left doesn't count")
     run.add_argument("--on-lost", choices=["stop", "go-on"], default="go-on", help="what a command does whose lease has ended")
     run.add_argument("command", nargs="+", metavar="COMMAND")

@@ -256,7 +256,8 @@ class Nodes(support.FarmTest):
     def turns(self) -> None:
         one = self.run_on(1, "touch in; until [ -e go ]; do sleep 0.05; done; echo one >> w1/f")
         self.wait_for(self.path("in"))
-        self.assertIn("weren't granted within 0.2", self.ended(self.run_on(2, "true", "--wait", "0.2"), 75))
+        self.assertIn("weren't granted within 0 ", self.ended(self.run_on(2, "true", "--wait", "0"), 75))
+        self.assertEqual(self.farm("run", "--node", "2", "--wait", "0", "--folder", "locked:free=w3", "--", "echo", "free").stdout, "free\n")
         two = self.run_on(2, "cat w2/f")
         self.assertIn("node 1 has locked:c for", self.asked("status"))
         self.hear(two, "waiting for locked:c: node 1 has locked:c for .* s, ticket [0-9]+")
