@@ -22,6 +22,7 @@ from agent.needs import Needs
 from agent.places import Places
 from agent.shared import SharedFolders
 from agent.store import ChunksMissing, Store
+from agent.tools import LOOK
 from agent.transport import COORDINATOR, Transport, address_of, node_address
 from agent.trees import NotMade
 from agent.words import EMPTY, Grant, Slot, grant_of, versions_of
@@ -32,7 +33,6 @@ STORE_FAULT = "refused StoreFault"
 RECALL = re.compile(r"recall [0-9]{1,4} [0-9]{1,20} ([0-9]{1,20}) ", re.ASCII)
 UNHEARD = "the coordinator hasn't answered yet: it may not run, or have another broker or key"
 HEARTBEAT = 2.0
-LOOK = 0.2  # seconds after which it is seen that nobody waits any more
 REMEMBERED = 1024  # commits
 LACK_MOST, LACK_EVERY = 30.0, 5.0  # seconds for which chunks are asked for, and from one asking to the next
 

@@ -237,7 +237,8 @@ class Places:
                 self._note(path, None, None)
 
     def keep(self, store: Store, path: str) -> tuple[bytes, str]:
-        """Keeps what a path holds, as `trees.keep` does. Where it still is the version that it was, its files aren't read."""
+        """Keeps what a path holds: its index, and the digest under which it lasts. Where it still is the version that it was, its files
+        aren't read."""
         if not is_folder(path):
             raise FarmFault(f"{path} is no folder any more, and nothing of it is kept")
         with store.making():

@@ -18,7 +18,7 @@ from agent.lines import line_of
 from agent.node import Ending, NodeAgent
 from agent.places import check_apart, path_order, place_of
 from agent.shared import Tenure
-from agent.tools import need
+from agent.tools import LOOK, need
 from agent.words import MOST_FOLDERS, Grant, Slot, Want
 
 PATIENCE = 10.0  # seconds from the signal that asks a lost execution to stop to the one that ends it
@@ -202,7 +202,7 @@ class Run:
         stopped: float | None = None
         told = False
         while True:
-            status = execution.wait(0.2)
+            status = execution.wait(LOOK)
             if self.epoch != self.agent.talk.epoch or execution.was_ended and stopped is None:
                 raise LifeOver("the node began a new life")
             if status is not None:

@@ -116,13 +116,6 @@ def make(store: Store, path: str, beside: str | None = None) -> bytes:
             _show_excludes(path)
 
 
-def keep(store: Store, path: str) -> tuple[bytes, str]:
-    """Keeps what a folder holds. Its index, and the digest under which it lasts."""
-    with store.making():
-        index = make(store, path)
-        return index, store.publish(index)
-
-
 def extract(
     store: Store, index: bytes, path: str, locks: Sequence[int] = (), check: Callable[[], None] = lambda: None, beside: str | None = None
 ) -> None:

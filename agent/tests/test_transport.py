@@ -111,7 +111,7 @@ class OverRedis(Carries):
         with support.redis_server(self.room) as url:
             one, other = (RedisStore(url, self.path(name), "t", b"k") for name in "ab")
             self.write("tree/f", "text" * 1000)
-            index, digest = trees.keep(one, self.path("tree"))
+            index, digest = support.kept(one, self.path("tree"))
             name = f"t:chunk:{chunk_names(index)[0]}"
             sealed = one.server.call("GET", name)
             for bad in (sealed[:-1] + bytes([sealed[-1] ^ 1]), b"", b"x" * 500):
@@ -132,7 +132,7 @@ class OverRedis(Carries):
         with support.redis_server(self.room) as url:
             store = RedisStore(url, self.path("a"), "t", b"k")
             self.write("tree/f", "text" * 1000)
-            index, digest = trees.keep(store, self.path("tree"))
+            index, digest = support.kept(store, self.path("tree"))
             store.server.call("CONFIG", "SET", "maxmemory", "1")
             with self.assertRaisesRegex(FarmFault, "took no contents: .*maxmemory"):
                 store.publish(index)
@@ -181,8 +181,8 @@ class OverRedis(Carries):
             self.write("one/f", "a" * 300_000)
             self.write("one/g", "c" * 300_000)
             self.write("two/f", "b" * 300_000)
-            _, one = trees.keep(store, self.path("one"))
-            _, two = trees.keep(store, self.path("two"))
+            _, one = support.kept(store, self.path("one"))
+            _, two = support.kept(store, self.path("two"))
             self.assertEqual(store.forget({one}, 3600), (0, 0))  # all is young
             store.server.call("ZADD", "t:given", 5, f"t:index:{two}")
             store.server.call("SET", "t:chunk:" + "0" * 64, "of an agent that was killed")

@@ -64,39 +64,39 @@ class Trees(support.RoomTest):
     def test_there_and_back(self) -> None:
         tree = self.tree()
         before = told(tree)
-        index, digest = trees.keep(self.store, tree)
+        index, digest = support.kept(self.store, tree)
         self.assertEqual(told(tree), before)
         self.assertEqual(self.store.index(digest), index)
         trees.extract(self.store, index, self.path("out"))
         self.assertEqual(told(self.path("out")), before)
-        self.assertEqual(trees.keep(self.store, self.path("out")), (index, digest))
+        self.assertEqual(support.kept(self.store, self.path("out")), (index, digest))
 
     def test_kept_or_refused(self) -> None:
         """What couldn't be brought back isn't kept."""
         self.write(f"tree/{'d' * 255}/{'f' * 237}", "x")
         os.symlink("x", self.path(f"tree/{'é' * 118}"))
-        index, _ = trees.keep(self.store, self.path("tree"))
+        index, _ = support.kept(self.store, self.path("tree"))
         trees.extract(self.store, index, self.path("out"))
         self.assertEqual(told(self.path("out")), told(self.path("tree")))
         for name, said in (("f" * 238, "237 bytes"), ("é" * 119, "237 bytes"), ("old", "before 1970")):
             path = self.write(f"bad/{name}", "x")
             os.utime(path, (0, -1 if name == "old" else 0))
             with self.assertRaisesRegex(FarmFault, said):
-                trees.keep(self.store, self.path("bad"))
+                support.kept(self.store, self.path("bad"))
             os.unlink(path)
         os.symlink("x", self.path(f"bad/{'l' * 238}"))
         with self.assertRaisesRegex(FarmFault, "237 bytes"):
-            trees.keep(self.store, self.path("bad"))
+            support.kept(self.store, self.path("bad"))
         os.unlink(self.path(f"bad/{'l' * 238}"))
         os.utime(self.path("bad"), (0, -1))
         with self.assertRaisesRegex(FarmFault, "before 1970"):
-            trees.keep(self.store, self.path("bad"))
+            support.kept(self.store, self.path("bad"))
 
     def test_flag_nodump(self) -> None:
         self.write("tree/kept", "x")
         if not support.has("chattr") or subprocess.run(["chattr", "+d", self.path("tree/kept")], capture_output=True).returncode:
             self.skipTest("this file system has no attribute d")
-        index, _ = trees.keep(self.store, self.path("tree"))
+        index, _ = support.kept(self.store, self.path("tree"))
         trees.extract(self.store, index, self.path("out"))
         self.assertEqual(self.read("out/kept"), "x")
 
@@ -105,7 +105,7 @@ class Trees(support.RoomTest):
         trees.extract(self.store, b"", self.path("out"))
         self.assertEqual(os.listdir(self.path("out")), [])
         os.makedirs(self.path("none"))
-        index, _ = trees.keep(self.store, self.path("none"))
+        index, _ = support.kept(self.store, self.path("none"))
         trees.extract(self.store, index, self.path("out"))
         self.assertEqual(os.listdir(self.path("out")), [])
 
@@ -120,7 +120,7 @@ class Trees(support.RoomTest):
         self.assertEqual((self.read("mine/f"), os.listdir(self.path("mine"))), ("x", ["f"]))
 
     def test_lost_and_damaged(self) -> None:
-        index, digest = trees.keep(self.store, self.tree())
+        index, digest = support.kept(self.store, self.tree())
         with self.assertRaises(FarmFault):
             chunk_names(index[:-1])
         with self.assertRaises(FarmFault):
@@ -147,7 +147,7 @@ class Trees(support.RoomTest):
         self.write("tree/f", "x")
         subprocess.run([sys.executable, "-c", "import os\nfor i in range(1200): os.mkdir('a'); os.chdir('a')"], cwd=self.path("tree"), check=True)
         with self.assertRaisesRegex(FarmFault, "too many folders within folders"):
-            trees.keep(self.store, self.path("tree"))
+            support.kept(self.store, self.path("tree"))
         self.assertIsNone(signature(self.path("tree")))
         Trash(self.path("home")).take(self.path("tree"))
         support.until(lambda: not os.listdir(self.path("home/trash")), "it is still in the trash")
@@ -161,7 +161,7 @@ class Trees(support.RoomTest):
                 pass
         with self.assertRaisesRegex(FarmFault, "aren't in"):
             self.store.fetch(index)
-        self.assertEqual(trees.keep(self.store, tree)[0], index)
+        self.assertEqual(support.kept(self.store, tree)[0], index)
         trees.extract(self.store, index, self.path("out"))
         self.assertEqual(told(self.path("out")), told(tree))
 
@@ -174,7 +174,7 @@ class Trees(support.RoomTest):
             for path in paths:
                 with open(path, "rb+") as file:
                     file.truncate(rest if rest > 0 else os.path.getsize(path) + rest)
-            self.assertEqual(trees.keep(self.store, tree)[0], index, rest)
+            self.assertEqual(support.kept(self.store, tree)[0], index, rest)
             self.assertEqual(self.store.spoilt(index), [])
         with open(paths[0], "rb+") as file:
             file.seek(10)
@@ -184,12 +184,12 @@ class Trees(support.RoomTest):
         with self.assertRaisesRegex(FarmFault, "1 chunks of a version aren't in"):
             trees.extract_whole(self.store, index, self.path("out2"))
         self.assertFalse(os.path.exists(self.path("out2")))
-        trees.keep(self.store, tree)
+        support.kept(self.store, tree)
         self.assertFalse(self.store.mend(index))
 
     def test_forget_damaged(self) -> None:
         """Chunks of a content that is needed stay, though its index can't be read: a filter may have it."""
-        index, digest = trees.keep(self.store, self.tree())
+        index, digest = support.kept(self.store, self.tree())
         put_file(f"{self.store.indexes}/{digest}", b"damaged")
         with self.assertRaisesRegex(FarmFault, "isn't readable"):
             self.store.forget({digest}, -1)
@@ -198,8 +198,8 @@ class Trees(support.RoomTest):
     def test_forget(self) -> None:
         self.write("one/f", "a" * 300_000)
         self.write("two/f", "b" * 300_000)
-        one, digest = trees.keep(self.store, self.path("one"))
-        _, other = trees.keep(self.store, self.path("two"))
+        one, digest = support.kept(self.store, self.path("one"))
+        _, other = support.kept(self.store, self.path("two"))
         self.write(f"store/chunks/0000/{'0' * 64}.tmp", "left by a killed casync")
         self.assertEqual(self.store.forget({digest}, 3600), (0, 0))
         indexes, chunks = self.store.forget({digest}, -1)
