@@ -9,6 +9,7 @@ from typing import Callable, Protocol
 
 from agent.faults import ClientGone, WaitOver
 
+LATE = 5.0  # seconds after which an answer of the coordinator is late
 MOMENT = 1.0  # seconds in which a lease of what is free is granted: who would wait for less gets it too
 
 
@@ -24,18 +25,26 @@ class Caller(Protocol):
 class Patience:
     """How long a caller waits for a lease."""
 
-    def __init__(self, caller: Caller | None, seconds: float | None, of_shared: str = "") -> None:
+    def __init__(self, caller: Caller | None, seconds: float | None, of_shared: str = "", unheard: str = "") -> None:
         self.caller = caller
+        self.begun = time.monotonic()
+        self.unheard = unheard  # what is said of an answer that is late: for so long it is waited for, though the caller is gone
+        self.told = ""
         self.of_shared = of_shared  # what is said beside where it waits for a SHARED folder
         self.end = None if seconds is None else time.monotonic() + max(seconds, MOMENT)
         self.seconds = seconds
 
     def check(self) -> None:
-        if self.caller and self.caller.gone:
+        is_late = time.monotonic() > self.begun + LATE
+        if self.caller and self.caller.gone and (is_late or not self.unheard):
             raise ClientGone("nobody waits for it any more")
+        if self.unheard and is_late:
+            self.say(self.unheard)
         if self.end is not None and time.monotonic() > self.end:
             raise WaitOver(f"the folders weren't granted within {self.seconds:g} seconds")
 
     def say(self, text: str) -> None:
-        if self.caller:
+        """Tells what is waited for, once."""
+        if self.caller and text != self.told:
+            self.told = text
             self.caller.say(text)

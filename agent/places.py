@@ -236,7 +236,7 @@ class Places:
             if is_folder(path) and not self._is_ours(path):
                 self._note(path, None, None)
 
-    def keep(self, store: Store, path: str) -> tuple[bytes, str]:
+    def keep(self, store: Store, path: str, away: Callable[[str], None] = lambda why: None) -> tuple[bytes, str]:
         """Keeps what a path holds: its index, and the digest under which it lasts. Where it still is the version that it was, its files
         aren't read."""
         if not is_folder(path):
@@ -246,12 +246,12 @@ class Places:
             index = store.index(digest) if digest else None
             if index:
                 with contextlib.suppress(FarmFault):  # a chunk is gone: it is made anew
-                    return index, store.publish(index)
+                    return index, store.publish(index, away)
             self._note(path, None, None)
             before = signature(path)
             with self.rooms.room() as room:
                 index = trees.make(store, path, room)
-            digest = store.publish(index)
+            digest = store.publish(index, away)
             after = signature(path)
             self._note(path, digest, after if after == before else None)
             return index, digest

@@ -12,7 +12,7 @@ import hashlib
 import os
 import tempfile
 import time
-from typing import Iterator, Protocol
+from typing import Callable, Iterator, Protocol
 
 from agent.chunks import chunk_names, chunk_path, chunk_sizes, is_kept, is_right
 from agent.faults import FarmFault, named
@@ -32,8 +32,9 @@ class Store(Protocol):
     def making(self) -> contextlib.AbstractContextManager[None]:
         """As long as it is held, nothing is forgotten."""
 
-    def publish(self, index: bytes) -> str:
-        """Keeps an index whose chunks are in the folder, and gives its digest. All of it lasts then."""
+    def publish(self, index: bytes, away: Callable[[str], None] = lambda why: None) -> str:
+        """Keeps an index whose chunks are in the folder, and gives its digest. All of it lasts then. Why it isn't so yet `away` hears now and
+        then, while a store that other machines share can't be reached."""
 
     def index(self, digest: str) -> bytes | None:
         """The index of a digest; none where it isn't here."""
@@ -100,7 +101,7 @@ class FolderStore:
     def making(self) -> contextlib.AbstractContextManager[None]:
         return self._locked(fcntl.LOCK_SH)
 
-    def publish(self, index: bytes) -> str:
+    def publish(self, index: bytes, away: Callable[[str], None] = lambda why: None) -> str:
         digest = hashlib.sha256(index).hexdigest()
         for name in chunk_names(index):
             try:

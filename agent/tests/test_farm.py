@@ -17,14 +17,14 @@ from unittest import mock
 from agent.caller import Patience
 from agent.coordinator import CoordinatorAgent
 from agent.executions import can_have_namespaces
-from agent.faults import LifeOver, WaitOver
+from agent.faults import ClientGone, LifeOver, WaitOver
 from agent.hints import make_key
 from agent.node import NodeAgent, Setup
 from agent.redis_wire import Redis
 from agent.runs import Job, Run
 from agent.service import Connection, Service
 from agent.store import FolderStore
-from agent.transport import LocalTransport
+from agent.transport import COORDINATOR, LocalTransport
 from agent.words import Want
 
 from agent.tests import support
@@ -516,6 +516,57 @@ class Lossy(LocalTransport):
             threading.Timer(self.random.random() * 0.3, super().send, [address, line]).start()
         if chance < 0.95:
             super().send(address, line)
+
+
+class Cut(LocalTransport):
+    """Loses what is for the coordinator while it is cut."""
+
+    is_cut = False
+
+    def send(self, address: str, line: str) -> None:
+        if not self.is_cut or address != COORDINATOR:
+            super().send(address, line)
+
+
+@unittest.skipUnless(support.has("casync"), support.needs("casync"))
+class Unanswered(support.RoomTest):
+    def test_left(self) -> None:
+        """Whoever waits for the answer to a commit is told, and may leave. The commit is sent again all the same."""
+        program, transport = os.environ.get("FARMCTL", support.PRACTICE), Cut()
+        setup = Setup(program, self.room, make_key(self.path("key")), FolderStore(self.path("contents")), transport, lambda text: None)
+        coordinator, node = CoordinatorAgent(setup), NodeAgent(1, 1, setup)
+        agents: list[CoordinatorAgent | NodeAgent] = [coordinator, node]
+        for agent in agents:
+            agent.talk.start()
+            self.addCleanup(agent.stop)
+            threading.Thread(target=agent.serve, daemon=True).start()
+        for folder, said, ended in (("locked:c", "lost [0-9]+: what the command left isn't known to count", ClientGone), ("shared:c", "lost shared:c", int)):
+            path, caller, ends = self.path(folder), support.Heard(), list[object]()
+            script = f"echo x > {path}/f; touch {path}.ran; until [ -e {path}.go ]; do sleep 0.05; done"
+            run = Run(node, Job(["sh", "-c", script], self.room, {"PATH": os.environ["PATH"]}, [Want(folder, path)]), caller)
+
+            def does() -> None:
+                try:
+                    ends.append(run.run())
+                except ClientGone as fault:
+                    ends.append(fault)
+
+            with self.subTest(folder), mock.patch("agent.caller.LATE", 0.5):
+                if folder.startswith("shared") and not can_have_namespaces():
+                    continue
+                thread = threading.Thread(target=does)
+                thread.start()
+                support.until(lambda: os.path.exists(f"{path}.ran"))
+                transport.is_cut = True
+                self.write(f"{folder}.go", "")
+                support.until(lambda: any("waiting for the commit of" in text for text in caller.said))
+                caller.gone = True
+                thread.join(support.PATIENCE)
+                self.assertRegex(caller.said[-1], said)
+                self.assertIsInstance(ends[0], ended)
+                self.assertEqual(coordinator.versions(folder), [])
+                transport.is_cut = False
+                support.until(lambda: coordinator.versions(folder))
 
 
 @unittest.skipUnless(support.has("casync"), support.needs("casync"))

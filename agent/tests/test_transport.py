@@ -11,7 +11,7 @@ from unittest import mock
 
 from agent import trees
 from agent.chunks import chunk_names
-from agent.faults import FarmFault, Missing, UsageFault
+from agent.faults import ClientGone, FarmFault, Missing, UsageFault
 from agent.hints import Hints, make_key
 from agent.needs import Needs, parts
 from agent.redis_store import RedisStore
@@ -149,7 +149,7 @@ class OverRedis(Carries):
 
     def test_away_late(self) -> None:
         """A server that goes away late in a long sending is waited for as well. One that never gets further isn't, for ever."""
-        now, calls, faults = [0.0], list[str](), dict[int, int]()
+        now, calls, faults, away = [0.0], list[str](), dict[int, int](), list[str]()
 
         def call(commands: list[list[str]]) -> list[int]:
             now[0] += 50
@@ -167,12 +167,16 @@ class OverRedis(Carries):
             mock.patch(f"{module}.chunk_names", lambda index: list("01234567")),
         ):
             faults[6] = 1
-            store._send("8", b"", False)
+            store._send("8", b"", away.append)
             self.assertEqual("".join(name[-1] for name in calls), "0123456012345678")
+            self.assertEqual(away, ["waiting for the store over Redis, which takes no contents: away"])
+            faults[6] = 1
+            with self.assertRaises(ClientGone):  # who hears of it may give up
+                store._send("8", b"", mock.Mock(side_effect=ClientGone))
             faults[6] = 99
             with self.assertRaisesRegex(FarmFault, "took no contents: away"):
-                store._send("8", b"", False)
-            self.assertLess(len(calls), 50)
+                store._send("8", b"", away.append)
+            self.assertLess(len(calls), 60)
 
     @unittest.skipUnless(support.has("casync"), support.needs("casync"))
     def test_forget(self) -> None:
