@@ -380,8 +380,8 @@ class Apart(support.FarmTest):
                 self.up("node", node, "--home", self.path(f"n{node}"), "--broker", url)
             for number in range(3):
                 self.run_on(1 + number % 2, f"head -c 200000 /dev/urandom > w{1 + number % 2}/f{number}")
-            self.assertRegex(self.asked("gc", "--keep", "1", "--grace", "-1"), "Redis forgot 2 indexes and [0-9]+ chunks")
-            self.assertRegex(self.asked("gc", "--home", self.path("n1"), "--grace", "-1"), "^forgot 2 contents of nodes, 2 indexes and [1-9][0-9]* chunks")
+            self.assertRegex(self.asked("gc", "--keep", "1", "--grace", "0"), "Redis forgot 2 indexes and [0-9]+ chunks")
+            self.assertRegex(self.asked("gc", "--home", self.path("n1"), "--grace", "0"), "^forgot 2 contents of nodes, 2 indexes and [1-9][0-9]* chunks")
             self.spoilt()
             server = Redis(url)
             for key in server.call("KEYS", "*:chunk:*"):
