@@ -172,7 +172,7 @@ def start_farm(home: str) -> None:
 
     from agent.tools import TOP, farmctl
 
-    farmctl()  # a missing program is told here, and not in the farm's log
+    env = os.environ | {"FARMCTL": farmctl()}  # a missing program is told here, and not in the farm's log; its path may be one from here
     os.makedirs(home, mode=0o700, exist_ok=True)
     tell(f"no farm runs in {home}: one of one node is started")
     words = [sys.executable, "-IS", os.path.join(TOP, "farm"), "up", "--home", home, "--nodes", "1", "--while-used", "--verbose"]
@@ -180,7 +180,7 @@ def start_farm(home: str) -> None:
         os.replace(f"{home}/farm.log", f"{home}/farm.log.old")
     with open(f"{home}/farm.log", "ab") as log:
         begun = log.tell()
-        started = subprocess.Popen(words, stdin=subprocess.DEVNULL, stdout=subprocess.PIPE, stderr=log, start_new_session=True, cwd=home)
+        started = subprocess.Popen(words, stdin=subprocess.DEVNULL, stdout=subprocess.PIPE, stderr=log, start_new_session=True, cwd=home, env=env)
     assert started.stdout
     with started.stdout as said_up:
         is_up = said_up.readline() == b"up\n"

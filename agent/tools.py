@@ -32,7 +32,7 @@ def farmctl() -> str:
         found = shutil.which(given)
         if not found:
             raise Missing(f"the farm's program isn't there, or can't be run: FARMCTL names {given}")
-        return found
+        return os.path.abspath(found)
     built = os.path.join(TOP, "crates", "farmctl", "out", "farmctl")
     if not os.access(built, os.X_OK):
         raise Missing("the farm's program isn't built yet: ./farmctl --help proves and builds it, once")

@@ -217,6 +217,12 @@ class Alone(support.FarmTest):
         self.assertTrue(support.is_over(int(self.read("pid"))))
         self.assertFalse(os.path.exists(self.path("got")))
 
+    def test_program_from_here(self) -> None:
+        """The farm's program may be named from the folder in which a command is called."""
+        os.symlink(self.env["FARMCTL"], self.path("program"))
+        self.env["FARMCTL"] = "./program"
+        self.assertEqual(self.farm("run", "--", "echo", "ran").stdout, "ran\n")
+
     def test_missing_program(self) -> None:
         for program, said in (("/nowhere/farmctl", "isn't there"), ("/bin/false", "doesn't start as the coordinator")):
             self.env["FARMCTL"] = program
