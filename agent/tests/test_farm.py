@@ -505,6 +505,18 @@ class StoreFault(support.RoomTest):
         self.assertLessEqual(call.call_count, 3)  # after 0.3, 0.9 and 2.1 seconds, and not after 4.5
 
 
+class Waits(unittest.TestCase):
+    def test_told(self) -> None:
+        """What is waited for is told when it changes, and else ever less often: 15 minutes take few lines."""
+        caller, now = support.Heard(), [0.0]
+        with mock.patch("agent.caller.time.monotonic", lambda: now[0]):
+            patience = Patience(caller, None)
+            for second in range(900):
+                now[0] = float(second)
+                patience.say(f"node {1 if second < 600 else 2} has locked:c for {second} s, ticket 7")
+        self.assertEqual([text.split()[5] for text in caller.said], ["0", "6", "17", "38", "79", "160", "321", "600", "606", "617", "638", "679", "760"])
+
+
 class Lossy(LocalTransport):
     """Loses, repeats, delays and damages."""
 
