@@ -398,6 +398,21 @@ class Apart(support.FarmTest):
             self.alone(url)
             self.end()
 
+    def test_store_away(self) -> None:
+        """Who waits for a store that is away is told, and may leave."""
+        with support.redis_server(self.room, "--appendonly", "yes", "--appendfsync", "always") as url:
+            self.up("coordinator", "--broker", url)
+            os.makedirs(self.path("n1"))
+            shutil.copy2(f"{self.home}/key", self.path("n1/key"))
+            self.up("node", "1", "--home", self.path("n1"), "--broker", url)
+            run = self.begin("run", "--home", self.path("n1"), "--folder", "locked:c=w", "--", "sh", "-c", "echo x > w/f; touch in; until [ -e go ]; do sleep 0.05; done")
+            self.wait_for(self.path("in"))
+        self.write("go", "")
+        self.hear(run, "waiting for the store over Redis, which takes no contents: .*refused")
+        run.send_signal(signal.SIGINT)
+        self.assertIn("nobody waits", run.communicate(timeout=support.PATIENCE)[1])
+        self.assertEqual(run.returncode, 75)
+
     def spoilt(self) -> None:
         """What is spoilt in a node's own folder comes from the store."""
         chunks = [f"{at}/{name}" for at, _, names in os.walk(self.path("n1/contents/chunks")) for name in names]
