@@ -19,7 +19,7 @@ from agent.dockertext import BadDockerfile
 from agent.executions import launcher
 from agent.faults import FarmFault, UsageFault
 from agent.launch import ORPHANED
-from agent.tools import need, whole
+from agent.tools import need, whole, why
 
 # An image's name as registries spell it: a first part with a point or a port is a registry, and all else is in small letters.
 PART = r"[a-z0-9]+(?:(?:[._]|__|-+)[a-z0-9]+)*"
@@ -112,10 +112,10 @@ class Buildah:
         if done.returncode:
             pulled = self._call("pull", name, check=check)
             if pulled.returncode:
-                raise BadDockerfile(0, f"the image {name} isn't here and can't be pulled: {' '.join(pulled.stderr.split())[-300:]}")
+                raise BadDockerfile(0, f"the image {name} isn't here and can't be pulled: {why(pulled)}")
             done = self._call("inspect", "--type", "image", pulled.stdout.split()[-1])
         if done.returncode:
-            raise BadDockerfile(0, f"the image {name} can't be read: {' '.join(done.stderr.split())[-300:]}")
+            raise BadDockerfile(0, f"the image {name} can't be read: {why(done)}")
         told = json.loads(done.stdout)
         docker = (told.get("Docker") or {}).get("config") or {}
         env = ((told.get("OCIv1") or {}).get("config") or {}).get("Env") or docker.get("Env") or []
@@ -150,7 +150,7 @@ class Buildah:
                 before = self._images("--all")
             done = self._call("tag", name, tag)
             if done.returncode:
-                raise FarmFault(f"the image {name} can't be tagged {tag}: {' '.join(done.stderr.split())[-300:]}")
+                raise FarmFault(f"the image {name} can't be tagged {tag}: {why(done)}")
             with self._cleaning():
                 now = self._images("--all")
                 self.unnamed.update(
@@ -168,7 +168,7 @@ class Buildah:
     def _said(self, *words: str) -> str:
         done = self._call(*words)
         if done.returncode:
-            raise FarmFault(f"buildah {words[0]}: {' '.join(done.stderr.split())[-300:]}")
+            raise FarmFault(f"buildah {words[0]}: {why(done)}")
         return done.stdout
 
     def _images(self, *which: str) -> dict[str, set[str]]:

@@ -39,6 +39,11 @@ def farmctl() -> str:
     return built
 
 
+def why(done: subprocess.CompletedProcess[str]) -> str:
+    """Why a program failed: its last words, or its status, where it had none, as one that was killed."""
+    return " ".join(done.stderr.split())[-300:] or f"it ended with status {done.returncode}"
+
+
 def whole(process: subprocess.Popen[str], check: Callable[[], None], ending: int = signal.SIGKILL) -> subprocess.CompletedProcess[str]:
     """What came of a program, once it has ended. Where `check` finds that nobody waits for it any more it is ended by this signal."""
     with process:

@@ -17,7 +17,7 @@ from typing import Callable, Iterator, Sequence
 from agent.chunks import chunk_names, chunk_path, is_whole
 from agent.faults import FarmFault
 from agent.store import Store
-from agent.tools import need, whole
+from agent.tools import need, whole, why
 
 # What an index keeps of a file. A `--without=all` beside these would undo them, wherever it stood.
 FEATURES = ("--with=permissions", "--with=symlinks", "--with=nsec-time", "--with=32bit-uids", "--with=fifos")
@@ -38,7 +38,7 @@ def _casync(*words: str, keeps: Sequence[int] = (), check: Callable[[], None] = 
     done = whole(process, check)
     if done.returncode:
         kind = NotMade if words[0] == "extract" else FarmFault
-        raise kind(f"casync {words[0]}: {' '.join(done.stderr.split())[-300:]}")
+        raise kind(f"casync {words[0]}: {why(done)}")
 
 
 def _excludes(path: str) -> Iterator[tuple[str, list[str]]]:

@@ -124,7 +124,7 @@ class Unnamed(support.RoomTest):
         with mock.patch.dict("os.environ", {"PATH": f"{self.path('bin')}:{os.environ['PATH']}"}):
             self.builder.tag(old, "app")
             self.builder.tag(new, "app")
-            self.assertEqual(self.builder.drop_unnamed(), ["an image that lost its name may stay: buildah images: "])
+            self.assertEqual(self.builder.drop_unnamed(), ["an image that lost its name may stay: buildah images: it ended with status 9"])
         self.assertEqual((self.builder.drop_unnamed(), self.left()), ([], {new}))
 
 

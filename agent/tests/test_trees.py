@@ -109,6 +109,14 @@ class Trees(support.RoomTest):
         trees.extract(self.store, index, self.path("out"))
         self.assertEqual(os.listdir(self.path("out")), [])
 
+    def test_killed(self) -> None:
+        """Of a casync that was killed, and so said nothing, the status is told."""
+        self.write("bin/casync", "#!/bin/sh\nkill -9 $$\n")
+        os.chmod(self.path("bin/casync"), 0o755)
+        with mock.patch.dict("os.environ", {"PATH": f"{self.path('bin')}:{os.environ['PATH']}"}):
+            with self.assertRaisesRegex(FarmFault, r"\Acasync make: it ended with status -9\Z"):
+                support.kept(self.store, self.tree())
+
     def test_in_the_way(self) -> None:
         """What is at a path already stays, whatever the content."""
         self.write("mine/f", "x")
