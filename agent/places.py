@@ -213,6 +213,17 @@ class Places:
         with contextlib.suppress(FileNotFoundError):
             os.unlink(self._known(path))
 
+    def forget_gone(self) -> None:
+        """Forgets the paths at which nothing is any more, though their file systems are there: jobs may each have a path of their own."""
+        for name in os.listdir(self.home):
+            path, device = [*_list_of(f"{self.home}/{name}"), "", 0][:2]
+            if path and TAKEN.take(path):  # no command has it
+                try:
+                    if not os.path.lexists(path) and _device_of(path) == device:
+                        self.forget(path)
+                finally:
+                    TAKEN.free(path)
+
     def forget_within(self, folder: str) -> None:
         """Nobody uses any path within a folder any more, or will."""
         for name in os.listdir(self.home):
@@ -255,6 +266,13 @@ class Places:
             after = signature(path)
             self._note(path, digest, after if after == before else None)
             return index, digest
+
+
+def _device_of(path: str) -> int:
+    """The file system in which a path would be made."""
+    while not os.path.exists(path):
+        path = os.path.dirname(path)
+    return os.stat(path).st_dev
 
 
 def _list_of(path: str) -> list[Any]:

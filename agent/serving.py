@@ -215,6 +215,7 @@ def answer_command(agent: NodeAgent, builds: Builds, wanted: Wanted, asked: dict
     if asked["do"] == "build":
         return Build(builds, BuildAsked(**asked["build"]), link).run()
     if asked["do"] == "forget":
+        agent.places.forget_gone()
         link.tell(forget(agent, set(asked["needed"]), float(asked["grace"])))
     elif asked["do"] == "needed":
         link.tell(sorted(agent.needed(int(asked["keep"]))))

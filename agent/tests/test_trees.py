@@ -324,6 +324,27 @@ class Paths(support.RoomTest):
         places.forget_within(self.path("link"))
         self.assertEqual([json.loads(self.read(f"home/places/{name}"))[0] for name in os.listdir(places.home)], [self.path("workshop")])
 
+    def test_gone(self) -> None:
+        """What is known of paths that are gone is forgotten, but of those that a command has, or whose file system isn't there."""
+        places = Places(self.path("home"))
+        paths = [self.path(name) for name in ("jobs/1/w", "jobs/2/w", "held", "elsewhere", "stays")]
+        for path in paths:
+            places.clear(path)
+        shutil.rmtree(self.path("jobs"))
+        for path in paths[2:4]:
+            os.rmdir(path)
+        (mark,) = [f"{places.home}/{name}" for name in os.listdir(places.home) if "elsewhere" in self.read(f"home/places/{name}")]
+        with open(mark) as file:
+            known = json.load(file)
+        with open(mark, "w") as file:
+            json.dump([known[0], known[1] + 1, *known[2:]], file)
+        with places.held(self.path("held")):
+            places.forget_gone()
+        left = {json.loads(self.read(f"home/places/{name}"))[0] for name in os.listdir(places.home)}
+        self.assertEqual(left, set(paths[2:]))
+        places.forget_gone()
+        self.assertEqual(len(os.listdir(places.home)), 2)
+
     @unittest.skipUnless(support.is_root, "only root can mount")
     def test_mounted(self) -> None:
         """What others have mounted within a folder isn't removed with it."""
