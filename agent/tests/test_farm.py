@@ -2,6 +2,7 @@
 from __future__ import annotations
 
 import contextlib
+import io
 import json
 import os
 import random
@@ -17,12 +18,12 @@ from unittest import mock
 from agent.caller import Patience
 from agent.coordinator import CoordinatorAgent
 from agent.executions import can_have_namespaces
-from agent.faults import ClientGone, LifeOver, WaitOver
+from agent.faults import ClientGone, FarmFault, LifeOver, WaitOver
 from agent.hints import make_key
 from agent.node import NodeAgent, Setup
 from agent.redis_wire import Redis
 from agent.runs import Job, Run
-from agent.service import Connection, Service
+from agent.service import Connection, Service, handled
 from agent.store import FolderStore
 from agent.transport import COORDINATOR, LocalTransport
 from agent.words import Want
@@ -522,6 +523,18 @@ class StoreFault(support.RoomTest):
         with self.assertRaises(WaitOver), mock.patch.object(agent, "call", wraps=agent.call) as call:
             agent.wait(2, Patience(None, 2.3), lambda: False)
         self.assertLessEqual(call.call_count, 3)  # after 0.3, 0.9 and 2.1 seconds, and not after 4.5
+
+
+class Handled(unittest.TestCase):
+    def test_faults(self) -> None:
+        """What the system refuses a command is told to it, and is no fault of the agent, which alone leaves a traceback."""
+        rows = [(FileNotFoundError(2, "No such file", "/x"), "/x: No such file", ""), (FarmFault("why"), "why", ""), (KeyError("k"), "KeyError: 'k'", "Traceback")]
+        for fault, said, log in rows:
+            link = mock.Mock()
+            with contextlib.redirect_stderr(io.StringIO()) as heard:
+                self.assertEqual(handled(mock.Mock(side_effect=fault), {}, link), 70)
+            link.say.assert_called_once_with(said)
+            self.assertEqual(heard.getvalue()[:9], log)
 
 
 class Waits(unittest.TestCase):
