@@ -25,7 +25,7 @@ from agent.redis_store import RedisStore
 from agent.redis_transport import RedisTransport
 from agent.runs import Job, Run
 from agent.service import Connection, Handler, Service
-from agent.store import FolderStore, Store
+from agent.store import FolderStore, Store, is_old
 from agent.tools import farmctl
 from agent.transport import LocalTransport, Transport
 from agent.words import DIGEST, want_of
@@ -230,7 +230,7 @@ def forget(agent: NodeAgent, needed: set[str], grace: float) -> int:
     """Forgets the contents of a node that aren't needed and are older than the grace, as far as its filter lets it. How many went."""
     folder, oldest = f"{agent.home}/filter/contents", time.time() - grace
     found = [name for name in os.listdir(folder) if DIGEST.fullmatch(name)] if os.path.isdir(folder) else []
-    gone = [name for name in found if name not in needed and os.lstat(f"{folder}/{name}").st_mtime <= oldest]
+    gone = [name for name in found if name not in needed and is_old(f"{folder}/{name}", oldest)]
     return sum(not agent.call(line_of("forget", name)).is_refused for name in gone)
 
 

@@ -59,6 +59,14 @@ def sync_all(folder: str) -> None:
         os.close(handle)
 
 
+def is_old(path: str, oldest: float) -> bool:
+    """Whether a file was there at that time, and hasn't been written since."""
+    try:
+        return os.lstat(path).st_mtime <= oldest
+    except FileNotFoundError:
+        return False  # it has its whole name now, or somebody else forgot it
+
+
 def put_file(path: str, data: bytes) -> None:
     """A file that lasts, whole or not at all: written beside, synced, renamed, and its folder synced."""
     folder = os.path.dirname(path)
@@ -151,7 +159,7 @@ class FolderStore:
         until nobody makes anything; how many indexes and chunks went."""
         with self._locked(fcntl.LOCK_EX):
             oldest = time.time() - grace
-            gone = [d for d in os.listdir(self.indexes) if d not in needed and self._is_old(f"{self.indexes}/{d}", oldest)]
+            gone = [d for d in os.listdir(self.indexes) if d not in needed and is_old(f"{self.indexes}/{d}", oldest)]
             for name in gone:
                 os.unlink(f"{self.indexes}/{name}")
             used = set()
@@ -167,11 +175,7 @@ class FolderStore:
         for folder, _, names in os.walk(self.chunks):
             for name in names:  # also what a killed casync left: its names end otherwise
                 path = f"{folder}/{name}"
-                if name.removesuffix(".cacnk") not in used and self._is_old(path, oldest):
+                if name.removesuffix(".cacnk") not in used and is_old(path, oldest):
                     os.unlink(path)
                     count += 1
         return count
-
-    @staticmethod
-    def _is_old(path: str, oldest: float) -> bool:
-        return os.lstat(path).st_mtime <= oldest

@@ -195,6 +195,11 @@ class Trees(support.RoomTest):
         support.kept(self.store, tree)
         self.assertFalse(self.store.mend(index))
 
+    def test_forget_meanwhile(self) -> None:
+        """What gets its whole name, or is forgotten by another one, while it is looked for is no fault."""
+        with mock.patch("os.walk", return_value=[(self.store.chunks, [], [".new-x"])]), mock.patch("os.listdir", return_value=["0" * 64]):
+            self.assertEqual(self.store.forget(set(), -10), (0, 0))
+
     def test_forget_damaged(self) -> None:
         """Chunks of a content that is needed stay, though its index can't be read: a filter may have it."""
         index, digest = support.kept(self.store, self.tree())
