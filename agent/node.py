@@ -373,7 +373,7 @@ class NodeAgent:
         except NotMade:
             if not self.store.mend(index):
                 raise
-            self.log(f"chunks of {slot.name} were spoilt in the store")
+            self.log(f"chunks of {slot.name} were spoilt in the store, or forgotten meanwhile")
             self.places.fill(self.store, self.content(slot, epoch, patience), path, gone)
 
     def _index(self, slot: Slot, epoch: int) -> bytes:

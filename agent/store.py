@@ -43,7 +43,8 @@ class Store(Protocol):
         """Sees to it that the chunks of an index are in the folder."""
 
     def mend(self, index: bytes) -> bool:
-        """Forgets the chunks of an index that are spoilt here, so that they are missing. Whether there was one."""
+        """Forgets the chunks of an index that are spoilt here, so that they are missing. Whether any is, as those are that were forgotten
+        while they were wanted."""
 
     def offer(self, digest: str) -> bool:
         """Gives the shared store what another machine misses there, where it is here. Whether it did."""
@@ -143,13 +144,12 @@ class FolderStore:
 
     def mend(self, index: bytes) -> bool:
         spoilt = self.spoilt(index)
-        if not spoilt:
-            return False
-        with self._locked(fcntl.LOCK_EX):  # nobody counts on them just now
-            for name in spoilt:
-                with contextlib.suppress(FileNotFoundError):
-                    os.unlink(chunk_path(self.chunks, name))
-        return True
+        if spoilt:
+            with self._locked(fcntl.LOCK_EX):  # nobody counts on them just now
+                for name in spoilt:
+                    with contextlib.suppress(FileNotFoundError):
+                        os.unlink(chunk_path(self.chunks, name))
+        return not all(is_kept(self.chunks, name) for name in chunk_names(index))
 
     def offer(self, digest: str) -> bool:
         return False  # all see one folder

@@ -10,7 +10,7 @@ import urllib.parse
 from unittest import mock
 
 from agent import trees
-from agent.chunks import chunk_names
+from agent.chunks import chunk_names, chunk_path
 from agent.faults import ClientGone, FarmFault, Missing, UsageFault
 from agent.hints import Hints, make_key
 from agent.needs import Needs, parts
@@ -125,6 +125,18 @@ class OverRedis(Carries):
             trees.extract(other, index, self.path("out"))
             self.assertEqual(self.read("out/f"), "text" * 1000)
             self.assertIsNone(other.index("0" * 64))
+            found = other.fetch
+
+            def fetch(index: bytes) -> None:
+                """Another process, which knows nothing of it, forgets a chunk as soon as it is here."""
+                found(index)
+                if not os.path.exists(self.path("forgotten")):
+                    os.rename(chunk_path(other.chunks, chunk_names(index)[0]), self.path("forgotten"))
+
+            with mock.patch.object(other, "fetch", fetch):
+                trees.extract_whole(other, index, self.path("again"))
+            self.assertEqual(self.read("again/f"), "text" * 1000)
+            self.assertTrue(os.path.exists(self.path("forgotten")))
 
     @unittest.skipUnless(support.has("casync"), support.needs("casync"))
     def test_away(self) -> None:
