@@ -10,15 +10,16 @@ import os
 import re
 import subprocess
 import tempfile
+import threading
 from dataclasses import dataclass, field
-from typing import Callable, Protocol
+from typing import Callable, Iterator, Protocol
 
 from agent.dockerfile import Base
 from agent.dockertext import BadDockerfile
 from agent.executions import launcher
 from agent.faults import FarmFault, UsageFault
 from agent.launch import ORPHANED
-from agent.tools import need, whole
+from agent.tools import need, whole, why
 
 # An image's name as registries spell it: a first part with a point or a port is a registry, and all else is in small letters.
 PART = r"[a-z0-9]+(?:(?:[._]|__|-+)[a-z0-9]+)*"
@@ -68,7 +69,10 @@ class Builder(Protocol):
         """The name of the image that was built."""
 
     def tag(self, name: str, tag: str) -> None:
-        """Gives an image a tag."""
+        """Gives an image a tag, which another one may have had."""
+
+    def drop_unnamed(self) -> list[str]:
+        """Removes the images that lost their last name to such a tag, and nothing else. No build is under way. Which ones stay, and why."""
 
     def sweep(self) -> None:
         """Removes what builds left that didn't end by themselves. None is under way."""
@@ -82,6 +86,9 @@ class Buildah:
     def __init__(self, home: str, room: Callable[[], contextlib.AbstractContextManager[str]] = tempfile.TemporaryDirectory) -> None:
         self.home, self.room = home, room
         self.storage = ["--root", f"{home}/root", "--runroot", f"{home}/run", "--storage-driver", "vfs"]
+        self.tagging = threading.Lock()
+        self.unnamed: set[str] = set()  # images that lost their last name to another one
+        self.stays: list[str] = []  # what is to be told of them
 
     def _words(self, *words: str) -> list[str]:
         if os.geteuid():
@@ -105,10 +112,10 @@ class Buildah:
         if done.returncode:
             pulled = self._call("pull", name, check=check)
             if pulled.returncode:
-                raise BadDockerfile(0, f"the image {name} isn't here and can't be pulled: {' '.join(pulled.stderr.split())[-300:]}")
+                raise BadDockerfile(0, f"the image {name} isn't here and can't be pulled: {why(pulled)}")
             done = self._call("inspect", "--type", "image", pulled.stdout.split()[-1])
         if done.returncode:
-            raise BadDockerfile(0, f"the image {name} can't be read: {' '.join(done.stderr.split())[-300:]}")
+            raise BadDockerfile(0, f"the image {name} can't be read: {why(done)}")
         told = json.loads(done.stdout)
         docker = (told.get("Docker") or {}).get("config") or {}
         env = ((told.get("OCIv1") or {}).get("config") or {}).get("Env") or docker.get("Env") or []
@@ -137,9 +144,63 @@ class Buildah:
             return file.read().strip()
 
     def tag(self, name: str, tag: str) -> None:
-        done = self._call("tag", name, tag)
+        before: dict[str, set[str]] = {}
+        with self.tagging:
+            with self._cleaning():
+                before = self._images("--all")
+            done = self._call("tag", name, tag)
+            if done.returncode:
+                raise FarmFault(f"the image {name} can't be tagged {tag}: {why(done)}")
+            with self._cleaning():
+                now = self._images("--all")
+                self.unnamed.update(
+                    image for image, names in before.items() if names and names <= now[name] and image in now and not now[image]
+                )
+
+    @contextlib.contextmanager
+    def _cleaning(self) -> Iterator[None]:
+        """What goes wrong meanwhile is told, and fails no build."""
+        try:
+            yield
+        except (FarmFault, OSError, ValueError, LookupError, TypeError) as fault:
+            self.stays.append(f"an image that lost its name may stay: {fault}")
+
+    def _said(self, *words: str) -> str:
+        done = self._call(*words)
         if done.returncode:
-            raise FarmFault(f"the image {name} can't be tagged {tag}: {' '.join(done.stderr.split())[-300:]}")
+            raise FarmFault(f"buildah {words[0]}: {why(done)}")
+        return done.stdout
+
+    def _images(self, *which: str) -> dict[str, set[str]]:
+        """The names of each image."""
+        return {each["id"]: set(each["names"] or ()) for each in json.loads(self._said("images", "--json", "--no-trunc", *which))}
+
+    def _layers(self, name: str) -> list[str]:
+        return list(json.loads(self._said("inspect", "--type", "image", name))["OCIv1"]["rootfs"]["diff_ids"])
+
+    def drop_unnamed(self) -> list[str]:
+        for image in sorted(self.unnamed):
+            with self._cleaning():
+                self._drop(image)
+        said, self.stays = list(dict.fromkeys(self.stays)), []
+        return said
+
+    def _drop(self, image: str) -> None:
+        names = self._images("--all")
+        if image in names and not names[image]:
+            below = self._removed_with(image, names)
+            if below:
+                self.unnamed.discard(image)
+                raise FarmFault(f"with {image} buildah would remove {below}, which it was built from")
+            self._said("rmi", image)  # where that fails it is tried again
+        self.unnamed.discard(image)
+
+    def _removed_with(self, image: str, names: dict[str, set[str]]) -> str | None:
+        """An image that buildah would remove too, and that lost its name to none, or never had one: it also removes what an image was built
+        from, where that has no name and nothing else was built from it."""
+        shown, layers = self._images(), self._layers(image)  # what another one was built from is shown only if it has a name
+        below = [each for each in names if not names[each] and each not in shown and each not in self.unnamed]
+        return next((each for each in below if (own := self._layers(each)) == layers[: len(own)]), None)
 
     def sweep(self) -> None:
         if os.path.isdir(f"{self.home}/root"):

@@ -86,11 +86,14 @@ class Builds:
             os.makedirs(self.home, exist_ok=True)
             return tempfile.mkdtemp(prefix="b", dir=self.home)
 
-    def leave(self, room: str, ended_well: bool) -> None:
+    def leave(self, room: str, ended_well: bool) -> list[str]:
+        """What is to be told of images that lost their names. They go when no build is under way that may begin with them."""
         with self.lock:
             self.under_way -= 1
             self.dirty = self.dirty or not ended_well
+            said = [] if self.under_way or self.dirty else self.builder.drop_unnamed()
         self.agent.places.trash.take(room)
+        return said
 
 
 class Build:
@@ -108,7 +111,8 @@ class Build:
             status = self._run(path, plan, room)
             return status
         finally:
-            self.builds.leave(room, status in (0, LOST, FENCED_BUILD))
+            for text in self.builds.leave(room, status in (0, LOST, FENCED_BUILD)):
+                self.caller.say(text)
 
     def _plan(self, path: str) -> dockerfile.Plan:
         """What the Dockerfile wants. Images that it begins with are fetched now: nobody waits for that under a lease."""

@@ -6,9 +6,12 @@ Owes the filters nothing: it asks agents, and shows what they say.
 from __future__ import annotations
 
 import argparse
+import contextlib
 import fcntl
 import json
+import math
 import os
+import signal
 import sys
 import time
 from typing import Any, Callable, Iterator, Sequence
@@ -37,16 +40,23 @@ def parser() -> argparse.ArgumentParser:
 
 
 def seconds(text: str) -> float:
-    """A time that somebody may wait."""
-    if not float(text) >= 0:
+    """How long somebody may wait, or how old something is."""
+    if not 0 <= float(text) < math.inf:
         raise ValueError
     return float(text)
+
+
+def path(text: str) -> str:
+    """A path that is named: an empty one, as of a variable that isn't set, would be the folder that this is called in."""
+    if not text:
+        raise ValueError
+    return text
 
 
 def _verb(verbs: Any, name: str, does: Callable[[argparse.Namespace], int], text: str, example: str) -> argparse.ArgumentParser:
     made: argparse.ArgumentParser = verbs.add_parser(name, help=text, description=text, epilog=f"example: {example}")
     made.set_defaults(does=does)
-    made.add_argument("--home", default=default_home(), help="the farm's folder on this machine (%(default)s, or FARM_HOME)")
+    made.add_argument("--home", type=path, default=default_home(), help="the farm's folder on this machine (%(default)s, or FARM_HOME)")
     return made
 
 
@@ -60,7 +70,7 @@ def _serving_words(verbs: Any) -> None:
     node.add_argument("number", type=int, metavar="N")
     for made in (up, coordinator, node):
         made.add_argument("--nodes", type=int, default=3, help="how many nodes the farm has (%(default)s)")
-        made.add_argument("--contents", metavar="FOLDER", help="where contents are kept: a folder that all machines see")
+        made.add_argument("--contents", type=path, metavar="FOLDER", help="where contents are kept: a folder that all machines see")
         made.add_argument("--verbose", action="store_true", help="says what the filters answer")
     for made in (up, coordinator):
         made.add_argument(
@@ -78,7 +88,7 @@ def _run_words(verbs: Any) -> None:
     )
     run.add_argument("--node", type=int, help="the node that runs it (the first one here)")
     run.add_argument("--folder", action="append", default=[], metavar="[ro=]FOLDER=PATH", help="locked:ID, private:ID or shared:ID")
-    run.add_argument("--wait", type=seconds, metavar="SECONDS", help="waits no longer for the lease: then the status is 75")
+    run.add_argument("--wait", type=seconds, metavar="SECONDS", help="waits no longer for the lease, and for 0 only takes what is free: else the status is 75")
     run.add_argument("--must-commit", action="store_true", help="status 75 where what the command left doesn't count")
     run.add_argument("--on-lost", choices=["stop", "go-on"], default="go-on", help="what a command does whose lease has ended")
     run.add_argument("command", nargs="+", metavar="COMMAND")
@@ -89,7 +99,7 @@ def _build_words(verbs: Any) -> None:
         verbs, "build", do_build, "builds a Dockerfile with its cache mounts leased", "farm build --node 1 -t app:latest ."
     )
     build.add_argument("--node", type=int)
-    build.add_argument("-f", "--file", metavar="Dockerfile")
+    build.add_argument("-f", "--file", type=path, metavar="Dockerfile")
     build.add_argument("-t", "--tag")
     build.add_argument("--build-arg", action="append", default=[], metavar="K=V")
     build.add_argument("--target", metavar="STAGE")
@@ -99,7 +109,7 @@ def _build_words(verbs: Any) -> None:
     build.add_argument("--shared-as", choices=["shared", "locked", "private"], default="shared", help="treats shared mounts so")
     build.add_argument("--keep-failed", action="store_true", help="commits also what a failed build left")
     build.add_argument("--tag-fenced", action="store_true", help="tags the image also where the lease had ended")
-    build.add_argument("context")
+    build.add_argument("context", type=path)
 
 
 def _asking_words(verbs: Any) -> None:
@@ -112,7 +122,7 @@ def _asking_words(verbs: Any) -> None:
     log.add_argument("folder")
     get = _verb(verbs, "get", do_get, "what a version holds, without a lease", "farm get locked:ccache@3 /tmp/third")
     get.add_argument("folder", metavar="FOLDER[@NUMBER]")
-    get.add_argument("to", metavar="DIR")
+    get.add_argument("to", type=path, metavar="DIR")
     withdraw = _verb(verbs, "withdraw", do_withdraw, "ends a lease: its holder's commit won't count", "farm withdraw 17")
     withdraw.add_argument("ticket", type=int, metavar="T")
     retire = _verb(verbs, "retire", do_retire, "ends a node for good", "farm retire 3")
@@ -122,7 +132,7 @@ def _asking_words(verbs: Any) -> None:
     prune.add_argument("folder")
     gc = _verb(verbs, "gc", do_gc, "forgets what nothing needs, on this machine", "farm gc --keep 3")
     gc.add_argument("--keep", type=int, default=1, metavar="K", help="keeps the last K versions of each folder (%(default)s)")
-    gc.add_argument("--grace", type=float, default=3600, metavar="SECONDS", help="keeps what is younger (%(default)s)")
+    gc.add_argument("--grace", type=seconds, default=3600, metavar="SECONDS", help="keeps what is younger (%(default)s)")
 
 
 # Serving.
@@ -162,7 +172,7 @@ def start_farm(home: str) -> None:
 
     from agent.tools import TOP, farmctl
 
-    farmctl()  # a missing program is told here, and not in the farm's log
+    env = os.environ | {"FARMCTL": farmctl()}  # a missing program is told here, and not in the farm's log; its path may be one from here
     os.makedirs(home, mode=0o700, exist_ok=True)
     tell(f"no farm runs in {home}: one of one node is started")
     words = [sys.executable, "-IS", os.path.join(TOP, "farm"), "up", "--home", home, "--nodes", "1", "--while-used", "--verbose"]
@@ -170,7 +180,7 @@ def start_farm(home: str) -> None:
         os.replace(f"{home}/farm.log", f"{home}/farm.log.old")
     with open(f"{home}/farm.log", "ab") as log:
         begun = log.tell()
-        started = subprocess.Popen(words, stdin=subprocess.DEVNULL, stdout=subprocess.PIPE, stderr=log, start_new_session=True, cwd=home)
+        started = subprocess.Popen(words, stdin=subprocess.DEVNULL, stdout=subprocess.PIPE, stderr=log, start_new_session=True, cwd=home, env=env)
     assert started.stdout
     with started.stdout as said_up:
         is_up = said_up.readline() == b"up\n"
@@ -336,8 +346,6 @@ def do_get(args: argparse.Namespace) -> int:
     found = [each for each in versions if number in (None, each["version"])]
     if not found:
         raise FarmFault(f"{folder} has the versions 1 to {len(versions)}")
-    if os.path.lexists(args.to) and (not os.path.isdir(args.to) or os.listdir(args.to)):
-        raise FarmFault(f"{args.to} is there: name a path that is free, or an empty folder")
     kept = ask_coordinator(args, {"do": "store"})
     wanted = serving.Wanted(args.home, True, [], 1, kept["broker"], kept["contents"])
     store = serving.store_of(wanted, Hints(f"{args.home}/key"))
@@ -415,6 +423,22 @@ def main(words: Sequence[str] | None = None) -> int:
     return status
 
 
+@contextlib.contextmanager
+def interrupted() -> Iterator[None]:
+    """Signals that would end this process are heard as Ctrl-C is: what it had begun is put away, and the status is 75."""
+    def interrupt(_number: int, _frame: object) -> None:
+        raise KeyboardInterrupt
+
+    heard = [number for number in (signal.SIGTERM, signal.SIGHUP) if signal.getsignal(number) == signal.SIG_DFL]
+    for number in heard:
+        signal.signal(number, interrupt)
+    try:
+        yield
+    finally:
+        for number in heard:
+            signal.signal(number, signal.SIG_DFL)
+
+
 def status_of(words: Sequence[str] | None) -> int:
     try:
         args = parser().parse_args(words)
@@ -424,7 +448,8 @@ def status_of(words: Sequence[str] | None) -> int:
         args.home = os.path.abspath(args.home)
         if getattr(args, "contents", None):
             args.contents = os.path.abspath(args.contents)
-        return int(args.does(args))
+        with contextlib.nullcontext() if args.does in (do_up, do_coordinator, do_node) else interrupted():
+            return int(args.does(args))
     except FarmFault as fault:
         tell(str(fault))
         return fault.status

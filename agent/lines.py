@@ -120,9 +120,6 @@ class Filter:
         for raw in raws:
             hear(self._read() if len(raw) <= MOST else Answer(note="dropped TooLong"))
 
-    def kill(self) -> None:
-        self.process.kill()
-
     def close(self, patience: float = 0.2) -> int:
         """Ends the process, and gives its status."""
         try:

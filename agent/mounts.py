@@ -108,8 +108,8 @@ def _target(parts: _Parts) -> str:
         raise parts.refuse("it has no target")
     if not target.startswith("/"):
         raise parts.refuse(f"target={target} is relative, and the builder refuses that")
-    if re.search(r"[\s\"'\\$,]", target):
-        raise parts.refuse("its target has a space, quote, backslash or $, which the builder would read once more")
+    if re.search(r"[\s\"'\\$,\ud800-\udfff]", target):
+        raise parts.refuse("its target has a space, quote, backslash or $, which the builder would read once more, or what isn't UTF-8")
     whole = posixpath.normpath("/" + target.lstrip("/"))
     if whole == "/":
         raise parts.refuse("a target of / hides the image")

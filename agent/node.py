@@ -13,15 +13,16 @@ import time
 from dataclasses import dataclass
 from typing import Callable
 
-from agent.caller import Patience
+from agent.caller import LATE, Caller, Patience
 from agent.executions import Executions
-from agent.faults import FarmFault, LifeOver
+from agent.faults import ClientGone, FarmFault, LifeOver
 from agent.hints import Hints
 from agent.lines import Answer, Talk, line_of
 from agent.needs import Needs
 from agent.places import Places
 from agent.shared import SharedFolders
 from agent.store import ChunksMissing, Store
+from agent.tools import LOOK
 from agent.transport import COORDINATOR, Transport, address_of, node_address
 from agent.trees import NotMade
 from agent.words import EMPTY, Grant, Slot, grant_of, versions_of
@@ -32,7 +33,6 @@ STORE_FAULT = "refused StoreFault"
 RECALL = re.compile(r"recall [0-9]{1,4} [0-9]{1,20} ([0-9]{1,20}) ", re.ASCII)
 UNHEARD = "the coordinator hasn't answered yet: it may not run, or have another broker or key"
 HEARTBEAT = 2.0
-LOOK = 0.2  # seconds after which it is seen that nobody waits any more
 REMEMBERED = 1024  # commits
 LACK_MOST, LACK_EVERY = 30.0, 5.0  # seconds for which chunks are asked for, and from one asking to the next
 
@@ -244,20 +244,18 @@ class NodeAgent:
     def granted(self, ask: int, folders: list[str], epoch: int, patience: Patience) -> Grant:
         """Waits for the lease of an ask, and tells who has it meanwhile."""
         words: list[str] = []
-        told = ""
-        due, silent = time.monotonic() + 0.3, time.monotonic() + 5.0
+        due, silent = time.monotonic() + 0.3, time.monotonic() + LATE
 
         def is_decided() -> bool:
-            nonlocal words, told, due
+            nonlocal words, due
             words = self.call(f"state {ask}", epoch).note.split(" ")
             if words[0] == "pending" and time.monotonic() > due:
                 due = time.monotonic() + 2.0
                 self.setup.transport.send(COORDINATOR, self.hints.seal(f"who {self.node} {ask} {' '.join(folders)}"))
             held = self.holders.get(ask, UNHEARD if time.monotonic() > silent else "")
-            if words[0] == "pending" and held and held != told:
-                told = held
+            if words[0] == "pending" and held:
                 said = patience.of_shared if any(folder.startswith("shared:") for folder in folders) else ""
-                patience.say(f"waiting for {', '.join(folders)}: {told}{said and '. '}{said}")
+                patience.say(f"waiting for {', '.join(folders)}: {held}{said and '. '}{said}")
             return words[0] != "pending" and words != ["refused", "OutOfMemory"]
 
         try:
@@ -307,7 +305,7 @@ class NodeAgent:
         if note != f"begun {ticket}":
             raise FarmFault(f"it can't begin: {note.removeprefix('refused ')}")
 
-    def ending(self, ask: int, ticket: int, epoch: int) -> Ending:
+    def ending(self, ask: int, ticket: int, epoch: int, caller: Caller) -> Ending:
         """Waits for what came of a commit. Its versions are in the note that it came with, which another thread may be about to hear."""
         words: list[str] = []
         late = 0.0
@@ -320,10 +318,19 @@ class NodeAgent:
                 return time.monotonic() > late
             return words[0] in ("committed", "fenced", "released", "none")
 
-        self.wait(epoch, Patience(None, None), is_over)
+        try:
+            self.wait(epoch, Patience(caller, None, unheard=f"waiting for the commit of {ticket}: {UNHEARD}"), is_over)
+        except ClientGone:
+            threading.Thread(target=self._resend_until, args=(epoch, is_over), daemon=True).start()
+            raise
         if words[0] != "committed":
             return Ending(words[0], {})
         return Ending(words[0], versions_of(words[2:]) or self.learned.get(ticket, {}))
+
+    def _resend_until(self, epoch: int, is_over: Callable[[], bool]) -> None:
+        """Sends a commit again until it is answered, though nobody waits for that: else its folders would stay leased."""
+        with contextlib.suppress(FarmFault):
+            self.wait(epoch, Patience(None, None), is_over)
 
     def give_back(self, ticket: int, epoch: int) -> None:
         with contextlib.suppress(LifeOver):
@@ -366,7 +373,7 @@ class NodeAgent:
         except NotMade:
             if not self.store.mend(index):
                 raise
-            self.log(f"chunks of {slot.name} were spoilt in the store")
+            self.log(f"chunks of {slot.name} were spoilt in the store, or forgotten meanwhile")
             self.places.fill(self.store, self.content(slot, epoch, patience), path, gone)
 
     def _index(self, slot: Slot, epoch: int) -> bytes:

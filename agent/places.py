@@ -10,6 +10,7 @@ import fcntl
 import hashlib
 import json
 import os
+import pathlib
 import random
 import re
 import shutil
@@ -212,6 +213,17 @@ class Places:
         with contextlib.suppress(FileNotFoundError):
             os.unlink(self._known(path))
 
+    def forget_gone(self) -> None:
+        """Forgets the paths at which nothing is any more, though their file systems are there: jobs may each have a path of their own."""
+        for name in os.listdir(self.home):
+            path, device = [*_list_of(f"{self.home}/{name}"), "", 0][:2]
+            if path and TAKEN.take(path):  # no command has it
+                try:
+                    if not os.path.lexists(path) and _device_of(path) == device:
+                        self.forget(path)
+                finally:
+                    TAKEN.free(path)
+
     def forget_within(self, folder: str) -> None:
         """Nobody uses any path within a folder any more, or will."""
         for name in os.listdir(self.home):
@@ -235,8 +247,9 @@ class Places:
             if is_folder(path) and not self._is_ours(path):
                 self._note(path, None, None)
 
-    def keep(self, store: Store, path: str) -> tuple[bytes, str]:
-        """Keeps what a path holds, as `trees.keep` does. Where it still is the version that it was, its files aren't read."""
+    def keep(self, store: Store, path: str, away: Callable[[str], None] = lambda why: None) -> tuple[bytes, str]:
+        """Keeps what a path holds: its index, and the digest under which it lasts. Where it still is the version that it was, its files
+        aren't read."""
         if not is_folder(path):
             raise FarmFault(f"{path} is no folder any more, and nothing of it is kept")
         with store.making():
@@ -244,15 +257,22 @@ class Places:
             index = store.index(digest) if digest else None
             if index:
                 with contextlib.suppress(FarmFault):  # a chunk is gone: it is made anew
-                    return index, store.publish(index)
+                    return index, store.publish(index, away)
             self._note(path, None, None)
             before = signature(path)
             with self.rooms.room() as room:
                 index = trees.make(store, path, room)
-            digest = store.publish(index)
+            digest = store.publish(index, away)
             after = signature(path)
             self._note(path, digest, after if after == before else None)
             return index, digest
+
+
+def _device_of(path: str) -> int:
+    """The file system in which a path would be made."""
+    while not os.path.exists(path):
+        path = os.path.dirname(path)
+    return os.stat(path).st_dev
 
 
 def _list_of(path: str) -> list[Any]:
@@ -288,6 +308,19 @@ def place_of(path: str, cwd: str) -> str:
     if os.path.islink(whole):
         raise FarmFault(f"{whole} is a link: name the folder itself")
     return os.path.join(os.path.realpath(os.path.dirname(whole)), os.path.basename(whole))
+
+
+def check_outside(path: str, own: str) -> None:
+    """Refuses a path within a folder of the farm's own, or around it, by whichever names both are reached."""
+    if _is_reached_within(path, own):
+        raise UsageFault(f"{path} lies within {own}, which is the farm's own: name a path outside it")
+    if _is_reached_within(own, path):
+        raise UsageFault(f"{path} holds {own}, which is the farm's own: name a path beside it")
+
+
+def _is_reached_within(path: str, folder: str) -> bool:
+    around = [path, *map(str, pathlib.PurePath(path).parents)]
+    return os.path.exists(folder) and any(os.path.samefile(each, folder) for each in around if os.path.exists(each))
 
 
 def check_apart(paths: list[str]) -> None:

@@ -11,6 +11,7 @@ import hashlib
 import hmac
 import os
 import time
+from typing import Callable
 
 from agent.chunks import chunk_names, chunk_path, is_kept
 from agent.faults import FarmFault
@@ -60,9 +61,9 @@ class RedisStore:
     def _seal(self, name: str, data: bytes) -> bytes:
         return hmac.new(self.key, name.encode() + data, hashlib.sha256).digest()
 
-    def publish(self, index: bytes) -> str:
+    def publish(self, index: bytes, away: Callable[[str], None] = lambda why: None) -> str:
         digest = self.folder.publish(index)
-        self._send(digest, index, anew=False)
+        self._send(digest, index, away)
         return digest
 
     def mend(self, index: bytes) -> bool:
@@ -75,14 +76,15 @@ class RedisStore:
             return False
         try:
             self.folder.fetch(index)
-            self._send(digest, index, anew=True)
+            self._send(digest, index)
         except (FarmFault, OSError):
             return False
         return True
 
-    def _send(self, digest: str, index: bytes, anew: bool) -> None:
-        """Begins again after each fault, since a server that was away may have lost what it took. That it gets further renews its time."""
-        names, patience = chunk_names(index), 0.0 if anew else AWAY
+    def _send(self, digest: str, index: bytes, away: Callable[[str], None] | None = None) -> None:
+        """Begins again after each fault, since a server that was away may have lost what it took. That it gets further renews its time. Where
+        nobody hears that it is away all is sent, and once."""
+        names, patience, anew = chunk_names(index), AWAY if away else 0.0, away is None
         furthest, end = 0, time.monotonic() + patience
         while True:
             try:
@@ -94,8 +96,9 @@ class RedisStore:
                 return
             except RedisFault as fault:
                 is_away = isinstance(fault, RedisAway) or str(fault).startswith("LOADING")
-                if not is_away or time.monotonic() > end:
+                if not is_away or away is None or time.monotonic() > end:
                     raise FarmFault(f"the store over Redis took no contents: {fault}") from None
+                away(f"waiting for the store over Redis, which takes no contents: {fault}")
             time.sleep(0.5)
 
     def _send_chunks(self, names: list[str], anew: bool) -> None:

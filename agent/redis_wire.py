@@ -110,8 +110,12 @@ class Redis:
     def __init__(self, url: str) -> None:
         """Tries the server once, and again while it says that it loads its data."""
         self.idle: list[Link] = []
-        self.url = urllib.parse.urlsplit(url)
         self.lock = threading.Lock()
+        try:
+            self.url = urllib.parse.urlsplit(url)
+            _ = self.url.port  # it is read only now
+        except ValueError:  # which may show the password
+            raise UsageFault("the broker's URL can't be read: it is redis://[USER:PASSWORD@]HOST[:PORT], with %23 for a # and the like") from None
         if self.url.scheme not in ("redis", "rediss"):
             raise UsageFault("a broker is named as redis://HOST or rediss://HOST")
         try:

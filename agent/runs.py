@@ -18,7 +18,7 @@ from agent.lines import line_of
 from agent.node import Ending, NodeAgent
 from agent.places import check_apart, path_order, place_of
 from agent.shared import Tenure
-from agent.tools import need
+from agent.tools import LOOK, need
 from agent.words import MOST_FOLDERS, Grant, Slot, Want
 
 PATIENCE = 10.0  # seconds from the signal that asks a lost execution to stop to the one that ends it
@@ -50,6 +50,7 @@ class Run:
         self.agent, self.job, self.caller = agent, job, caller
         self.epoch = 0
         self.begun = False  # whether the command was started
+        self.finished = False  # whether what it left was handed to the filter
         self.patience = Patience(caller, job.wait, job.of_shared)
         self.stopped = False  # because its lease had ended
         self.how = "lost"  # what came of it: `failed`, `committed`, `released`, `fenced`
@@ -90,7 +91,7 @@ class Run:
             status = None if ask is None else self._run_asked(ask, tenures)
         finally:
             for folder, tenure in tenures.items():
-                closed = self.agent.shared.leave(folder, tenure)
+                closed = self.agent.shared.leave(folder, tenure, self.caller)
                 lost = lost or closed.is_lost
                 self.caller.say(closed.said)
         return self.job.lost_status or 0 if lost and status == 0 else status
@@ -116,14 +117,13 @@ class Run:
                 note = self.agent.call(line_of("finish", str(grant.ticket), *words), self.epoch).note
                 if note != f"finished {grant.ticket}":
                     raise FarmFault(f"it can't be finished: {note}")
-            return self._settle(grant, status, self.agent.ending(ask, grant.ticket, self.epoch), bool(words))
-        except LifeOver:
-            if not self.begun:
-                raise
-            self.caller.say(f"lost {grant.ticket}: what the command left isn't known to count")
-            raise
-        except BaseException:
-            self.agent.give_back(grant.ticket, self.epoch)
+                self.finished = True
+            return self._settle(grant, status, self.agent.ending(ask, grant.ticket, self.epoch, self.caller), bool(words))
+        except BaseException as fault:
+            if self.finished or self.begun and isinstance(fault, LifeOver):
+                self.caller.say(f"lost {grant.ticket}: what the command left isn't known to count")
+            elif not isinstance(fault, LifeOver):
+                self.agent.give_back(grant.ticket, self.epoch)
             raise
         finally:
             self.agent.ended.discard(grant.ticket)
@@ -155,13 +155,8 @@ class Run:
         return status, [(slot.name, held.enter_context(self._kept(slot))) for slot in grant.slots if slot.writable]
 
     def _waits_for(self, path: str) -> Callable[[], None]:
-        told = False
-
         def check() -> None:
-            nonlocal told
-            if not told:
-                told = True
-                self.caller.say(f"waiting for {path}: another command of this machine has it, or what is within it or around it")
+            self.patience.say(f"waiting for {path}: another command of this machine has it, or what is within it or around it")
             self.patience.check()
 
         return check
@@ -172,7 +167,13 @@ class Run:
 
     def _kept(self, slot: Slot) -> contextlib.AbstractContextManager[str]:
         """Keeps what a slot's path holds. The file of its index."""
-        return self.agent.places.rooms.file(self.agent.places.keep(self.agent.store, self.paths[slot.folder])[0])
+        patience = Patience(self.caller, None)
+
+        def away(why: str) -> None:
+            patience.say(why)
+            patience.check()
+
+        return self.agent.places.rooms.file(self.agent.places.keep(self.agent.store, self.paths[slot.folder], away)[0])
 
     def _command(self, ticket: int, tenures: dict[str, Tenure], binds: list[tuple[str, str, bool]]) -> int:
         agent, job = self.agent, self.job
@@ -202,7 +203,7 @@ class Run:
         stopped: float | None = None
         told = False
         while True:
-            status = execution.wait(0.2)
+            status = execution.wait(LOOK)
             if self.epoch != self.agent.talk.epoch or execution.was_ended and stopped is None:
                 raise LifeOver("the node began a new life")
             if status is not None:

@@ -91,10 +91,13 @@ def handled(handler: Handler, asked: dict[str, Any], connection: Connection) -> 
     except FarmFault as fault:
         connection.say(("refused: " if fault.status == BAD_DOCKERFILE else "") + str(fault))
         return fault.status
-    except Exception as fault:
+    except OSError as fault:
+        connection.say(sentence(fault))
+        return FAULT
+    except Exception as fault:  # of the agent itself
         with contextlib.suppress(OSError):
             traceback.print_exc()
-        connection.say(sentence(fault) if isinstance(fault, OSError) else f"{type(fault).__name__}: {fault}")
+        connection.say(f"{type(fault).__name__}: {fault}")
         return FAULT
 
 

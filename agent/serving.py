@@ -20,11 +20,12 @@ from agent.faults import LOST, FarmFault, UsageFault, tell
 from agent.hints import Hints, make_key
 from agent.lines import line_of
 from agent.node import NodeAgent, Setup
+from agent.places import check_outside
 from agent.redis_store import RedisStore
 from agent.redis_transport import RedisTransport
 from agent.runs import Job, Run
 from agent.service import Connection, Handler, Service
-from agent.store import FolderStore, Store
+from agent.store import FolderStore, Store, is_old
 from agent.tools import farmctl
 from agent.transport import LocalTransport, Transport
 from agent.words import DIGEST, want_of
@@ -206,10 +207,15 @@ def answer_command(agent: NodeAgent, builds: Builds, wanted: Wanted, asked: dict
             asked["command"], asked["cwd"], asked["env"], wants, asked["wait"], asked["on_lost"] == "stop",
             fenced_status=uncounted, lost_status=uncounted, umask=asked["umask"],
         )
-        return Run(agent, job, link).run()
+        run = Run(agent, job, link)
+        for path in run.paths.values():
+            for own in filter(None, (wanted.home, wanted.contents)):
+                check_outside(path, own)
+        return run.run()
     if asked["do"] == "build":
         return Build(builds, BuildAsked(**asked["build"]), link).run()
     if asked["do"] == "forget":
+        agent.places.forget_gone()
         link.tell(forget(agent, set(asked["needed"]), float(asked["grace"])))
     elif asked["do"] == "needed":
         link.tell(sorted(agent.needed(int(asked["keep"]))))
@@ -224,7 +230,7 @@ def forget(agent: NodeAgent, needed: set[str], grace: float) -> int:
     """Forgets the contents of a node that aren't needed and are older than the grace, as far as its filter lets it. How many went."""
     folder, oldest = f"{agent.home}/filter/contents", time.time() - grace
     found = [name for name in os.listdir(folder) if DIGEST.fullmatch(name)] if os.path.isdir(folder) else []
-    gone = [name for name in found if name not in needed and os.lstat(f"{folder}/{name}").st_mtime <= oldest]
+    gone = [name for name in found if name not in needed and is_old(f"{folder}/{name}", oldest)]
     return sum(not agent.call(line_of("forget", name)).is_refused for name in gone)
 
 

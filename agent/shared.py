@@ -9,8 +9,8 @@ import threading
 from dataclasses import dataclass
 from typing import TYPE_CHECKING, Callable, Iterable
 
-from agent.caller import Patience
-from agent.faults import FarmFault, LifeOver
+from agent.caller import Caller, Patience
+from agent.faults import ClientGone, FarmFault, LifeOver
 from agent.lines import line_of
 from agent.words import Slot, short_name
 
@@ -136,7 +136,7 @@ class SharedFolders:
             agent.give_back(grant.ticket, epoch)
             raise
 
-    def leave(self, folder: str, tenure: Tenure) -> Closed:
+    def leave(self, folder: str, tenure: Tenure, caller: Caller) -> Closed:
         """Counts an execution out, once its own lease has ended. The last one closes the folder. What came of that."""
         with self.changed:
             tenure.users -= 1
@@ -144,7 +144,7 @@ class SharedFolders:
                 return Closed(f"{folder} is in use by others here, and is committed after them")
             tenure.closing = True
         try:
-            return self._close(folder, tenure)
+            return self._close(folder, tenure, caller)
         finally:
             with self.changed:
                 if self.tenures.get(folder) is tenure:
@@ -153,14 +153,14 @@ class SharedFolders:
                 self.delayed.pop(tenure.ticket, None)
                 self.changed.notify_all()
 
-    def _close(self, folder: str, tenure: Tenure) -> Closed:
+    def _close(self, folder: str, tenure: Tenure, caller: Caller) -> Closed:
         """Commits what the executions left, and gives the tenure up by that."""
         agent, slot = self.agent, tenure.slot
         if not tenure.used:
             agent.give_back(tenure.ticket, tenure.epoch)
             return Closed(f"{folder} is given back as it was")
         try:
-            index, _ = agent.places.keep(agent.store, tenure.path)
+            index, _ = agent.places.keep(agent.store, tenure.path, Patience(caller, None).say)
             note = ""
             with agent.places.rooms.file(index) as file:
 
@@ -172,9 +172,11 @@ class SharedFolders:
                 agent.wait(tenure.epoch, Patience(None, None), is_finished)
             if note != f"finished {tenure.ticket}":
                 raise FarmFault(note)
-            ending = agent.ending(tenure.ask, tenure.ticket, tenure.epoch)
+            ending = agent.ending(tenure.ask, tenure.ticket, tenure.epoch, caller)
             said = [f"{name} version {number}" for name, (number, _) in ending.versions.items()]
             return Closed(f"{ending.how} {tenure.ticket} {' '.join(said) or folder}", ending.how != "committed")
+        except ClientGone:
+            return Closed(f"lost {folder}: what was left there isn't known to count", True)
         except Exception as fault:  # the last version stands
             agent.give_back(tenure.ticket, tenure.epoch)
             return Closed(f"lost {folder}: {fault}", True)

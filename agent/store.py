@@ -12,7 +12,7 @@ import hashlib
 import os
 import tempfile
 import time
-from typing import Iterator, Protocol
+from typing import Callable, Iterator, Protocol
 
 from agent.chunks import chunk_names, chunk_path, chunk_sizes, is_kept, is_right
 from agent.faults import FarmFault, named
@@ -32,8 +32,9 @@ class Store(Protocol):
     def making(self) -> contextlib.AbstractContextManager[None]:
         """As long as it is held, nothing is forgotten."""
 
-    def publish(self, index: bytes) -> str:
-        """Keeps an index whose chunks are in the folder, and gives its digest. All of it lasts then."""
+    def publish(self, index: bytes, away: Callable[[str], None] = lambda why: None) -> str:
+        """Keeps an index whose chunks are in the folder, and gives its digest. All of it lasts then. Why it isn't so yet `away` hears now and
+        then, while a store that other machines share can't be reached."""
 
     def index(self, digest: str) -> bytes | None:
         """The index of a digest; none where it isn't here."""
@@ -42,7 +43,8 @@ class Store(Protocol):
         """Sees to it that the chunks of an index are in the folder."""
 
     def mend(self, index: bytes) -> bool:
-        """Forgets the chunks of an index that are spoilt here, so that they are missing. Whether there was one."""
+        """Forgets the chunks of an index that are spoilt here, so that they are missing. Whether any is, as those are that were forgotten
+        while they were wanted."""
 
     def offer(self, digest: str) -> bool:
         """Gives the shared store what another machine misses there, where it is here. Whether it did."""
@@ -56,6 +58,14 @@ def sync_all(folder: str) -> None:
             raise FarmFault(f"{folder} can't be synced: {os.strerror(ctypes.get_errno())}")
     finally:
         os.close(handle)
+
+
+def is_old(path: str, oldest: float) -> bool:
+    """Whether a file was there at that time, and hasn't been written since."""
+    try:
+        return os.lstat(path).st_mtime <= oldest
+    except FileNotFoundError:
+        return False  # it has its whole name now, or somebody else forgot it
 
 
 def put_file(path: str, data: bytes) -> None:
@@ -100,7 +110,7 @@ class FolderStore:
     def making(self) -> contextlib.AbstractContextManager[None]:
         return self._locked(fcntl.LOCK_SH)
 
-    def publish(self, index: bytes) -> str:
+    def publish(self, index: bytes, away: Callable[[str], None] = lambda why: None) -> str:
         digest = hashlib.sha256(index).hexdigest()
         for name in chunk_names(index):
             try:
@@ -134,13 +144,12 @@ class FolderStore:
 
     def mend(self, index: bytes) -> bool:
         spoilt = self.spoilt(index)
-        if not spoilt:
-            return False
-        with self._locked(fcntl.LOCK_EX):  # nobody counts on them just now
-            for name in spoilt:
-                with contextlib.suppress(FileNotFoundError):
-                    os.unlink(chunk_path(self.chunks, name))
-        return True
+        if spoilt:
+            with self._locked(fcntl.LOCK_EX):  # nobody counts on them just now
+                for name in spoilt:
+                    with contextlib.suppress(FileNotFoundError):
+                        os.unlink(chunk_path(self.chunks, name))
+        return not all(is_kept(self.chunks, name) for name in chunk_names(index))
 
     def offer(self, digest: str) -> bool:
         return False  # all see one folder
@@ -150,7 +159,7 @@ class FolderStore:
         until nobody makes anything; how many indexes and chunks went."""
         with self._locked(fcntl.LOCK_EX):
             oldest = time.time() - grace
-            gone = [d for d in os.listdir(self.indexes) if d not in needed and self._is_old(f"{self.indexes}/{d}", oldest)]
+            gone = [d for d in os.listdir(self.indexes) if d not in needed and is_old(f"{self.indexes}/{d}", oldest)]
             for name in gone:
                 os.unlink(f"{self.indexes}/{name}")
             used = set()
@@ -166,11 +175,7 @@ class FolderStore:
         for folder, _, names in os.walk(self.chunks):
             for name in names:  # also what a killed casync left: its names end otherwise
                 path = f"{folder}/{name}"
-                if name.removesuffix(".cacnk") not in used and self._is_old(path, oldest):
+                if name.removesuffix(".cacnk") not in used and is_old(path, oldest):
                     os.unlink(path)
                     count += 1
         return count
-
-    @staticmethod
-    def _is_old(path: str, oldest: float) -> bool:
-        return os.lstat(path).st_mtime <= oldest

@@ -32,11 +32,16 @@ def farmctl() -> str:
         found = shutil.which(given)
         if not found:
             raise Missing(f"the farm's program isn't there, or can't be run: FARMCTL names {given}")
-        return found
+        return os.path.abspath(found)
     built = os.path.join(TOP, "crates", "farmctl", "out", "farmctl")
     if not os.access(built, os.X_OK):
         raise Missing("the farm's program isn't built yet: ./farmctl --help proves and builds it, once")
     return built
+
+
+def why(done: subprocess.CompletedProcess[str]) -> str:
+    """Why a program failed: its last words, or its status, where it had none, as one that was killed."""
+    return " ".join(done.stderr.split())[-300:] or f"it ended with status {done.returncode}"
 
 
 def whole(process: subprocess.Popen[str], check: Callable[[], None], ending: int = signal.SIGKILL) -> subprocess.CompletedProcess[str]:
@@ -51,4 +56,5 @@ def whole(process: subprocess.Popen[str], check: Callable[[], None], ending: int
                     check()
         except BaseException:
             process.send_signal(ending)
+            process.wait()  # also after Ctrl-C, which Python waits for a moment only
             raise

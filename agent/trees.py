@@ -17,7 +17,7 @@ from typing import Callable, Iterator, Sequence
 from agent.chunks import chunk_names, chunk_path, is_whole
 from agent.faults import FarmFault
 from agent.store import Store
-from agent.tools import need, whole
+from agent.tools import need, whole, why
 
 # What an index keeps of a file. A `--without=all` beside these would undo them, wherever it stood.
 FEATURES = ("--with=permissions", "--with=symlinks", "--with=nsec-time", "--with=32bit-uids", "--with=fifos")
@@ -38,7 +38,7 @@ def _casync(*words: str, keeps: Sequence[int] = (), check: Callable[[], None] = 
     done = whole(process, check)
     if done.returncode:
         kind = NotMade if words[0] == "extract" else FarmFault
-        raise kind(f"casync {words[0]}: {' '.join(done.stderr.split())[-300:]}")
+        raise kind(f"casync {words[0]}: {why(done)}")
 
 
 def _excludes(path: str) -> Iterator[tuple[str, list[str]]]:
@@ -116,13 +116,6 @@ def make(store: Store, path: str, beside: str | None = None) -> bytes:
             _show_excludes(path)
 
 
-def keep(store: Store, path: str) -> tuple[bytes, str]:
-    """Keeps what a folder holds. Its index, and the digest under which it lasts."""
-    with store.making():
-        index = make(store, path)
-        return index, store.publish(index)
-
-
 def extract(
     store: Store, index: bytes, path: str, locks: Sequence[int] = (), check: Callable[[], None] = lambda: None, beside: str | None = None
 ) -> None:
@@ -139,7 +132,9 @@ def extract(
 
 
 def extract_whole(store: Store, index: bytes, path: str) -> None:
-    """Makes a path, which is free or an empty folder, what an index says, or leaves it as it was."""
+    """Makes a path, which has to be free or an empty folder, what an index says, or leaves it as it was."""
+    if os.path.lexists(path) and (not os.path.isdir(path) or os.listdir(path)):
+        raise FarmFault(f"{path} is there: name a path that is free, or an empty folder")
     try:
         _extract_whole(store, index, path)
     except NotMade:

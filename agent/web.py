@@ -12,6 +12,9 @@ import json
 import os
 import re
 import signal
+import socket
+import socketserver
+import sys
 import threading
 from typing import Any, Callable
 
@@ -32,20 +35,42 @@ def policy_of(page: str) -> str:
     )
 
 
+def is_loopback(address: str) -> bool:
+    """Whether what listens there is reached from this machine alone."""
+    found = ipaddress.ip_address(address)
+    return (getattr(found, "ipv4_mapped", None) or found).is_loopback
+
+
 class Server(http.server.ThreadingHTTPServer):
     daemon_threads = True
 
     def __init__(self, address: str, port: int, read: Callable[[], Any]) -> None:
-        self.read, self.address = read, address
+        self.read = read
         with open(PAGE, encoding="utf-8") as file:
             self.page = file.read()
         self.policy = policy_of(self.page)
-        super().__init__((address, port), Answer)
-        self.is_loopback = address == "localhost" or ipaddress.ip_address(address).is_loopback
+        found = socket.getaddrinfo(address, None, type=socket.SOCK_STREAM)
+        self.address_family, *_, place = min(found, key=lambda each: each[0] != socket.AF_INET)
+        self.server_name = f"[{address.replace('%', '%25')}]" if ":" in address else address  # as a URL spells it
+        where: Any = (place[0], port, *place[2:])
+        super().__init__(where, Answer)
+        self.is_loopback = is_loopback(str(self.server_address[0]))
+
+    def server_bind(self) -> None:
+        """Listens without asking what else the address is called, which can take long. All addresses of IPv6 are all of IPv4 too."""
+        if self.address_family == socket.AF_INET6:
+            self.socket.setsockopt(socket.IPPROTO_IPV6, socket.IPV6_V6ONLY, 0)
+        socketserver.TCPServer.server_bind(self)
+        self.server_port = self.server_address[1]
+
+    def handle_error(self, request: Any, client_address: Any) -> None:
+        """Who asked may be gone again: that is no fault."""
+        if not isinstance(sys.exception(), (ConnectionError, TimeoutError)):
+            super().handle_error(request, client_address)
 
     def may_ask(self, host: str) -> bool:
         """Whether a request's Host is one of this server's. Else another site's name leads here, and its scripts would read the answer."""
-        names = [self.address, "localhost", "127.0.0.1"]
+        names = [self.server_name, "localhost", "127.0.0.1", "[::1]"]
         is_ours = host in [f"{name}:{self.server_port}" for name in names] or self.server_port == 80 and host in names
         return not self.is_loopback or is_ours
 
@@ -86,11 +111,11 @@ def serve(address: str, port: int, read: Callable[[], Any]) -> int:
     try:
         server = Server(address, port, read)
     except (OSError, OverflowError, ValueError) as fault:
-        raise FarmFault(f"no page at {address}, port {port}: {fault}") from None
+        raise FarmFault(f"no page at {address!r}, port {port}: {getattr(fault, 'strerror', '') or fault}") from None
     for number in (signal.SIGINT, signal.SIGTERM, signal.SIGHUP):
         if signal.getsignal(number) != signal.SIG_IGN:  # whoever started it keeps it off, as nohup does
             signal.signal(number, lambda *_: threading.Thread(target=server.shutdown).start())
-    print(f"http://{address}:{server.server_port}/", flush=True)
+    print(f"http://{server.server_name}:{server.server_port}/", flush=True)
     server.serve_forever()
     server.server_close()
     return 0

@@ -54,11 +54,15 @@ class Want(NamedTuple):
 
 
 def want_of(word: str) -> Want:
-    """`[ro=]FOLDER=PATH`. An id may contain `=`, so the path begins at the last one."""
+    """`[ro=]FOLDER=PATH`. Both may have a `=` within: the path begins at the first one that `/` follows, or is the only one."""
     writable = not word.startswith("ro=")
-    folder, equals, path = (word if writable else word[3:]).rpartition("=")
-    if not equals or not path:
+    rest = word if writable else word[3:]
+    whole = rest.find("=/")
+    folder, path = (rest[:whole], rest[whole + 1 :]) if whole >= 0 else rest.rpartition("=")[::2]
+    if not folder or not path:
         raise UsageFault(f"--folder wants FOLDER=PATH, as locked:ccache=/tmp/ccache, and got {word!r}")
+    if whole < 0 and "=" in folder:
+        raise UsageFault(f"{word!r} has several =, and each may end the folder: name the path from / on")
     if not is_folder(folder):
         sharing, colon, identifier = folder.partition(":")
         hint = f": write {folder_text(sharing, identifier)}" if colon and sharing in SHARINGS else ""

@@ -16,7 +16,8 @@ import unittest
 from typing import Callable, Iterator
 from unittest import mock
 
-from agent import cli
+from agent import cli, trees
+from agent.store import Store
 
 HERE = os.path.dirname(os.path.abspath(__file__))
 TOP = os.path.dirname(os.path.dirname(HERE))
@@ -54,6 +55,13 @@ class RoomTest(unittest.TestCase):
     def read(self, name: str) -> str:
         with open(self.path(name)) as file:
             return file.read()
+
+
+def kept(store: Store, path: str) -> tuple[bytes, str]:
+    """Keeps what a folder holds. Its index, and the digest under which it lasts."""
+    with store.making():
+        index = trees.make(store, path)
+        return index, store.publish(index)
 
 
 class Heard:
@@ -99,7 +107,7 @@ class FarmTest(RoomTest):
     def up(self, *words: str) -> subprocess.Popen[str]:
         """Starts a part of the farm, and waits until it stands."""
         started = subprocess.Popen(
-            [*FARM, *words], env=self.env, stdout=subprocess.PIPE, text=True, stdin=subprocess.DEVNULL
+            [*FARM, *words], env=self.env, stdout=subprocess.PIPE, text=True, stdin=subprocess.DEVNULL, cwd=self.room
         )
         self.ups.append(started)
         assert started.stdout

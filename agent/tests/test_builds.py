@@ -51,6 +51,11 @@ class Builds(support.FarmTest):
         self.asked("get", "shared:/s", self.path("shared"))
         self.assertEqual((self.read("got/f"), self.read("shared/f")), ("l one\n", "s one\ns bad\n"))
         self.assertEqual(os.listdir(self.path("got")), ["f"])
+        self.farm("build", "--build-arg", "WHO=two", "context")
+        for who in ("three", "four"):
+            self.assertNotIn("lost its name", self.farm("build", "--build-arg", f"WHO={who}", "-t", "app", "context").stderr)
+        names = Buildah(f"{self.home}/node1/containers")._images("--all").values()
+        self.assertEqual(sorted(names, key=len), [set(), {"localhost/app:latest"}])  # the one without a name was built without one
         self.tags()
 
     def tags(self) -> None:
@@ -59,6 +64,68 @@ class Builds(support.FarmTest):
         for tags in (GOOD_TAGS, *((tag,) for tag in BAD_TAGS[::4])):
             done = subprocess.run(["buildah", *storage, "tag", "app", "--", *tags], capture_output=True, text=True)
             self.assertEqual(done.returncode == 0, tags == GOOD_TAGS, f"{tags}: {done.stderr}")
+
+
+@unittest.skipUnless(support.has("buildah"), support.needs("buildah"))
+@unittest.skipUnless(support.is_root, "builds need root")
+class Unnamed(support.RoomTest):
+    """Images that lose their last name to another one go, and no other ones."""
+
+    def setUp(self) -> None:
+        super().setUp()
+        self.builder = Buildah(self.path("containers"))
+
+    def image(self, begins: str = "scratch") -> str:
+        """An image that begins with another one."""
+        self.write("Dockerfile", f"FROM {begins}\nCOPY f /f{begins[:4]}\n")
+        self.write("f", os.urandom(8).hex())
+        words = ["buildah", *self.builder.storage, "bud", "--iidfile", self.path("id"), "-f", self.path("Dockerfile"), self.room]
+        subprocess.run(words, check=True, capture_output=True)
+        return self.read("id")
+
+    def tagged(self, *tags: str, begins: str = "scratch") -> str:
+        image = self.image(begins)
+        for tag in tags:
+            self.builder.tag(image, tag)
+        return image
+
+    def left(self) -> set[str]:
+        return set(self.builder._images("--all"))
+
+    def test_replaced(self) -> None:
+        nameless, twice = self.image(), self.tagged("app", "app:old")
+        self.tagged("base")
+        self.tagged("on", begins="base")
+        self.assertEqual(self.builder.unnamed, set())
+        kept = {nameless, twice, self.tagged("app"), self.tagged("base"), self.tagged("on", begins="base")}
+        self.builder.tag(twice, "app:old")
+        self.assertEqual((len(self.builder.unnamed), self.builder.drop_unnamed(), self.left()), (2, [], kept))
+        old = self.tagged("app:old")
+        self.builder.tag(twice, "new")  # meanwhile it has a name again
+        self.assertEqual((self.builder.drop_unnamed(), self.left()), ([], kept | {old}))
+
+    def test_built_from_nameless(self) -> None:
+        """What an image was built from stays, though it never had a name, and buildah would remove it too."""
+        below = self.image()
+        first = self.tagged("app", begins=below.removeprefix("sha256:"))
+        kept = {below, first, self.tagged("app")}
+        self.assertRegex(" ".join(self.builder.drop_unnamed()), f"{first} buildah would remove {below}")
+        self.assertEqual((self.builder.drop_unnamed(), self.left()), ([], kept))
+
+    def test_not_cleaned(self) -> None:
+        """That images can't be removed is told, and they go another time."""
+        old = self.tagged("app")
+        subprocess.run(["buildah", *self.builder.storage, "from", "--name", "user", "app"], check=True, capture_output=True)
+        new = self.tagged("app")
+        self.assertRegex(" ".join(self.builder.drop_unnamed()), r"\Aan image that lost its name may stay: buildah rmi: [^\n]*in use by a container[^\n]*\Z")
+        subprocess.run(["buildah", *self.builder.storage, "rm", "user"], check=True, capture_output=True)
+        self.write("bin/buildah", f'#!/bin/sh\n[ $7 != images ] || exit 9\nexec {shutil.which("buildah")} "$@"\n')
+        os.chmod(self.path("bin/buildah"), 0o755)
+        with mock.patch.dict("os.environ", {"PATH": f"{self.path('bin')}:{os.environ['PATH']}"}):
+            self.builder.tag(old, "app")
+            self.builder.tag(new, "app")
+            self.assertEqual(self.builder.drop_unnamed(), ["an image that lost its name may stay: buildah images: it ended with status 9"])
+        self.assertEqual((self.builder.drop_unnamed(), self.left()), ([], {new}))
 
 
 @unittest.skipUnless(support.has("buildah"), support.needs("buildah"))

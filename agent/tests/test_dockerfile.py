@@ -73,6 +73,7 @@ REFUSED = [  # a Dockerfile, and words of why
     (f"FROM box\nRUN {T},target=/a/.. true", "hides the image"),
     (f"FROM box\nRUN {T},sharing=none,target=/c true", "sharing=none"),
     (f"FROM box\nRUN {T},target=/c,mode=9 true", "mode=9"),
+    (f"FROM box\nRUN {T},target=/c\udcff true", "what isn't UTF-8"),
     (f"FROM box\nRUN {T},target=/c,uid=x true", "uid=x"),
     (f"FROM box\nRUN {T},target=/c,size=1 true", "size"),
     (f"FROM box\nRUN {T},target=/c,dst=/d true", "twice"),

@@ -2,6 +2,7 @@
 from __future__ import annotations
 
 import contextlib
+import io
 import json
 import os
 import random
@@ -17,14 +18,14 @@ from unittest import mock
 from agent.caller import Patience
 from agent.coordinator import CoordinatorAgent
 from agent.executions import can_have_namespaces
-from agent.faults import LifeOver, WaitOver
+from agent.faults import ClientGone, FarmFault, LifeOver, WaitOver
 from agent.hints import make_key
 from agent.node import NodeAgent, Setup
 from agent.redis_wire import Redis
 from agent.runs import Job, Run
-from agent.service import Connection, Service
+from agent.service import Connection, Service, handled
 from agent.store import FolderStore
-from agent.transport import LocalTransport
+from agent.transport import COORDINATOR, LocalTransport
 from agent.words import Want
 
 from agent.tests import support
@@ -64,11 +65,31 @@ class Alone(support.FarmTest):
         self.assertIn("is there", self.asked("get", "locked:c", self.path("last"), status=70))
         self.assertIn("versions 1 to 2", self.asked("get", "locked:c@3", self.path("third"), status=70))
         self.lost()
+        self.farm("run", "--folder", "locked:d=jobs/1/w", "--", "true")
+        shutil.rmtree(self.path("jobs"))
+        known = len(os.listdir(f"{self.home}/node1/places"))
         self.asked("prune", "locked:c")
         self.assertIn("indexes", self.asked("gc", "--grace", "0"))
+        self.assertEqual(len(os.listdir(f"{self.home}/node1/places")), known - 1)
         self.assertIn("isn't in the store any more", self.asked("get", "locked:c@1", self.path("gone"), status=70))
         self.farm("run", "--folder", "locked:c=w", "--", "sh", "-c", "ls w > seen")
         self.assertEqual(self.read("seen"), "")
+
+    def test_own_home(self) -> None:
+        """No command gets what is the farm's own, by whichever name."""
+        self.up("up", "--nodes", "1", "--home", "sub/home", "--contents", "kept")
+        os.symlink(self.path("sub"), self.path("link"))
+        room = os.path.realpath(self.room)
+        rows = [("sub/home/x", "sub/home/x lies within", "sub/home"), ("link/home/node1/filter", "sub/home/node1/filter lies within", "sub/home"),
+                ("sub/home", "sub/home lies within", "sub/home"), ("link/../sub", "sub holds", "sub/home"), ("kept/chunks/new/x", "kept/chunks/new/x lies within", "kept"),
+                (".", " holds", "sub/home"), ("/", " holds", "sub/home")]
+        for path, said, own in rows:
+            done = self.farm("run", "--home", "link/home", "--folder", f"locked:c={path}", "--", "touch", self.path("ran"), status=64)
+            self.assertRegex(done.stderr, rf"\Afarm: {room if said[0] != ' ' else '/'}[^\n]*{said} {room}/{own}, which is the farm's own: [^\n]*\n\Z", path)
+        for path in ("sub/w", "sub/homes", "keptx"):
+            self.farm("run", "--home", "sub/home", "--folder", f"locked:c={path}", "--", "true")
+        self.assertIn("version 3 ticket 3 ", self.asked("log", "--home", self.path("sub/home"), "locked:c"))  # no lease was asked for before
+        self.assertFalse(os.path.exists(self.path("ran")))
 
     def test_starting(self) -> None:
         """A farm whose nodes are about to stand is waited for. A log that has become long is put aside."""
@@ -129,10 +150,16 @@ class Alone(support.FarmTest):
                 (["run", "--home", self.path("my home"), "--", "true"], 64, "has a space"),
                 (["node", "9", "--broker", "redis://127.0.0.1:1"], 64, "no node 9 of 3"), (["gc", "--keep", "0"], 64, "at least 1"),
                 (["run", "--wait", "nan", "--", "true"], 64, "invalid seconds value: 'nan'"), (["run", "--wait", "-1", "--", "true"], 64, "'-1'"),
+                (["gc", "--grace", "-1"], 64, "invalid seconds"), (["gc", "--grace", "inf"], 64, "invalid seconds"),
+                *[(["coordinator", "--broker", f"redis://{host}"], 64, "URL can't be read") for host in ("[::1", "h:x", "h:99999", ":se#ret@h")],
                 (["run", "--home", self.path("x" * 90), "--", "true"], 64, "too long"), (["up", "--home", self.path("\udcff")], 64, "isn't UTF-8"),
-                (["status", "--home", self.path("x" * 90)], 70, "path too long")]
+                (["status", "--home", self.path("x" * 90)], 70, "path too long"), (["get", "locked:c", ""], 64, "DIR: invalid path value: ''"),
+                (["up", "--home", ""], 64, "--home: invalid path"), (["up", "--contents", ""], 64, "--contents: invalid path"),
+                (["build", ""], 64, "context: invalid path")]
         for words, status, said in rows:
-            self.assertIn(said, self.asked(*words, status=status))
+            heard = self.asked(*words, status=status)
+            self.assertIn(said, heard)
+            self.assertNotIn("'se", heard)  # of a password
         gone = 'mkdir gone && cd gone && rmdir ../gone && exec "$@"'
         for call in (["run", "--", "true"], ["build", self.room]):
             done = subprocess.run(["sh", "-c", gone, "sh", *FARM, *call], cwd=self.room, env=self.env, capture_output=True, text=True)
@@ -165,6 +192,41 @@ class Alone(support.FarmTest):
         )
         done = subprocess.run([sys.executable, "-c", text, "run", "--", "true"], capture_output=True, text=True, timeout=support.PATIENCE)
         self.assertEqual((done.returncode, done.stderr), (75, ""))
+
+    def test_ended_while_starting(self) -> None:
+        """A signal that ends a command while its farm is being started came before the lease."""
+        program = self.write("program", f"#!/bin/sh\necho $PPID > {self.path('up.new')}\nmv {self.path('up.new')} {self.path('up')}\nread end\n")
+        os.chmod(program, 0o755)
+        self.env["FARMCTL"] = program
+        for number in (signal.SIGTERM, signal.SIGHUP, signal.SIGINT):
+            run = self.begin("run", "--", "touch", "ran")
+            self.wait_for(self.path("up"))
+            run.send_signal(number)
+            run.communicate(timeout=support.PATIENCE)
+            self.assertEqual((run.returncode, os.path.exists(self.path("ran"))), (75, False), number)
+            up = int(self.read("up"))
+            os.kill(up, signal.SIGKILL)
+            support.until(lambda: support.is_over(up))
+            os.unlink(self.path("up"))
+
+    def test_get_ended(self) -> None:
+        """What is shown of a version is whole, or nothing of it."""
+        self.farm("run", "--folder", "locked:c=w", "--", "touch", "w/f")
+        self.write("bin/casync", f'#!/bin/sh\nfor path; do :; done\ntouch $path/half\necho $$ > {self.path("pid")}.new\nmv {self.path("pid")}.new {self.path("pid")}\nexec sleep 300\n')
+        os.chmod(self.path("bin/casync"), 0o755)
+        self.env["PATH"] = f"{self.path('bin')}:{self.env['PATH']}"
+        get = self.begin("get", "locked:c", self.path("got"))
+        self.wait_for(self.path("pid"))
+        get.terminate()
+        self.assertEqual((get.communicate(timeout=support.PATIENCE), get.returncode), (("", ""), 75))
+        self.assertTrue(support.is_over(int(self.read("pid"))))
+        self.assertFalse(os.path.exists(self.path("got")))
+
+    def test_program_from_here(self) -> None:
+        """The farm's program may be named from the folder in which a command is called."""
+        os.symlink(self.env["FARMCTL"], self.path("program"))
+        self.env["FARMCTL"] = "./program"
+        self.assertEqual(self.farm("run", "--", "echo", "ran").stdout, "ran\n")
 
     def test_missing_program(self) -> None:
         for program, said in (("/nowhere/farmctl", "isn't there"), ("/bin/false", "doesn't start as the coordinator")):
@@ -205,7 +267,8 @@ class Nodes(support.FarmTest):
     def turns(self) -> None:
         one = self.run_on(1, "touch in; until [ -e go ]; do sleep 0.05; done; echo one >> w1/f")
         self.wait_for(self.path("in"))
-        self.assertIn("weren't granted within 0.2", self.ended(self.run_on(2, "true", "--wait", "0.2"), 75))
+        self.assertIn("weren't granted within 0 ", self.ended(self.run_on(2, "true", "--wait", "0"), 75))
+        self.assertEqual(self.farm("run", "--node", "2", "--wait", "0", "--folder", "locked:free=w3", "--", "echo", "free").stdout, "free\n")
         two = self.run_on(2, "cat w2/f")
         self.assertIn("node 1 has locked:c for", self.asked("status"))
         self.hear(two, "waiting for locked:c: node 1 has locked:c for .* s, ticket [0-9]+")
@@ -328,8 +391,8 @@ class Apart(support.FarmTest):
                 self.up("node", node, "--home", self.path(f"n{node}"), "--broker", url)
             for number in range(3):
                 self.run_on(1 + number % 2, f"head -c 200000 /dev/urandom > w{1 + number % 2}/f{number}")
-            self.assertRegex(self.asked("gc", "--keep", "1", "--grace", "-1"), "Redis forgot 2 indexes and [0-9]+ chunks")
-            self.assertRegex(self.asked("gc", "--home", self.path("n1"), "--grace", "-1"), "^forgot 2 contents of nodes, 2 indexes and [1-9][0-9]* chunks")
+            self.assertRegex(self.asked("gc", "--keep", "1", "--grace", "0"), "Redis forgot 2 indexes and [0-9]+ chunks")
+            self.assertRegex(self.asked("gc", "--home", self.path("n1"), "--grace", "0"), "^forgot 2 contents of nodes, 2 indexes and [1-9][0-9]* chunks")
             self.spoilt()
             server = Redis(url)
             for key in server.call("KEYS", "*:chunk:*"):
@@ -339,6 +402,21 @@ class Apart(support.FarmTest):
             self.assertIn("the other nodes are asked for them", said)
             self.alone(url)
             self.end()
+
+    def test_store_away(self) -> None:
+        """Who waits for a store that is away is told, and may leave."""
+        with support.redis_server(self.room, "--appendonly", "yes", "--appendfsync", "always") as url:
+            self.up("coordinator", "--broker", url)
+            os.makedirs(self.path("n1"))
+            shutil.copy2(f"{self.home}/key", self.path("n1/key"))
+            self.up("node", "1", "--home", self.path("n1"), "--broker", url)
+            run = self.begin("run", "--home", self.path("n1"), "--folder", "locked:c=w", "--", "sh", "-c", "echo x > w/f; touch in; until [ -e go ]; do sleep 0.05; done")
+            self.wait_for(self.path("in"))
+        self.write("go", "")
+        self.hear(run, "waiting for the store over Redis, which takes no contents: .*refused")
+        run.send_signal(signal.SIGINT)
+        self.assertIn("nobody waits", run.communicate(timeout=support.PATIENCE)[1])
+        self.assertEqual(run.returncode, 75)
 
     def spoilt(self) -> None:
         """What is spoilt in a node's own folder comes from the store."""
@@ -447,6 +525,30 @@ class StoreFault(support.RoomTest):
         self.assertLessEqual(call.call_count, 3)  # after 0.3, 0.9 and 2.1 seconds, and not after 4.5
 
 
+class Handled(unittest.TestCase):
+    def test_faults(self) -> None:
+        """What the system refuses a command is told to it, and is no fault of the agent, which alone leaves a traceback."""
+        rows = [(FileNotFoundError(2, "No such file", "/x"), "/x: No such file", ""), (FarmFault("why"), "why", ""), (KeyError("k"), "KeyError: 'k'", "Traceback")]
+        for fault, said, log in rows:
+            link = mock.Mock()
+            with contextlib.redirect_stderr(io.StringIO()) as heard:
+                self.assertEqual(handled(mock.Mock(side_effect=fault), {}, link), 70)
+            link.say.assert_called_once_with(said)
+            self.assertEqual(heard.getvalue()[:9], log)
+
+
+class Waits(unittest.TestCase):
+    def test_told(self) -> None:
+        """What is waited for is told when it changes, and else ever less often: 15 minutes take few lines."""
+        caller, now = support.Heard(), [0.0]
+        with mock.patch("agent.caller.time.monotonic", lambda: now[0]):
+            patience = Patience(caller, None)
+            for second in range(900):
+                now[0] = float(second)
+                patience.say(f"node {1 if second < 600 else 2} has locked:c for {second} s, ticket 7")
+        self.assertEqual([text.split()[5] for text in caller.said], ["0", "6", "17", "38", "79", "160", "321", "600", "606", "617", "638", "679", "760"])
+
+
 class Lossy(LocalTransport):
     """Loses, repeats, delays and damages."""
 
@@ -464,6 +566,57 @@ class Lossy(LocalTransport):
             threading.Timer(self.random.random() * 0.3, super().send, [address, line]).start()
         if chance < 0.95:
             super().send(address, line)
+
+
+class Cut(LocalTransport):
+    """Loses what is for the coordinator while it is cut."""
+
+    is_cut = False
+
+    def send(self, address: str, line: str) -> None:
+        if not self.is_cut or address != COORDINATOR:
+            super().send(address, line)
+
+
+@unittest.skipUnless(support.has("casync"), support.needs("casync"))
+class Unanswered(support.RoomTest):
+    def test_left(self) -> None:
+        """Whoever waits for the answer to a commit is told, and may leave. The commit is sent again all the same."""
+        program, transport = os.environ.get("FARMCTL", support.PRACTICE), Cut()
+        setup = Setup(program, self.room, make_key(self.path("key")), FolderStore(self.path("contents")), transport, lambda text: None)
+        coordinator, node = CoordinatorAgent(setup), NodeAgent(1, 1, setup)
+        agents: list[CoordinatorAgent | NodeAgent] = [coordinator, node]
+        for agent in agents:
+            agent.talk.start()
+            self.addCleanup(agent.stop)
+            threading.Thread(target=agent.serve, daemon=True).start()
+        for folder, said, ended in (("locked:c", "lost [0-9]+: what the command left isn't known to count", ClientGone), ("shared:c", "lost shared:c", int)):
+            path, caller, ends = self.path(folder), support.Heard(), list[object]()
+            script = f"echo x > {path}/f; touch {path}.ran; until [ -e {path}.go ]; do sleep 0.05; done"
+            run = Run(node, Job(["sh", "-c", script], self.room, {"PATH": os.environ["PATH"]}, [Want(folder, path)]), caller)
+
+            def does() -> None:
+                try:
+                    ends.append(run.run())
+                except ClientGone as fault:
+                    ends.append(fault)
+
+            with self.subTest(folder), mock.patch("agent.caller.LATE", 0.5):
+                if folder.startswith("shared") and not can_have_namespaces():
+                    continue
+                thread = threading.Thread(target=does)
+                thread.start()
+                support.until(lambda: os.path.exists(f"{path}.ran"))
+                transport.is_cut = True
+                self.write(f"{folder}.go", "")
+                support.until(lambda: any("waiting for the commit of" in text for text in caller.said))
+                caller.gone = True
+                thread.join(support.PATIENCE)
+                self.assertRegex(caller.said[-1], said)
+                self.assertIsInstance(ends[0], ended)
+                self.assertEqual(coordinator.versions(folder), [])
+                transport.is_cut = False
+                support.until(lambda: coordinator.versions(folder))
 
 
 @unittest.skipUnless(support.has("casync"), support.needs("casync"))

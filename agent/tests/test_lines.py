@@ -110,7 +110,7 @@ class Lines(unittest.TestCase):
         talk.start()
         self.addCleanup(talk.stop)
         assert talk.present[1]
-        talk.present[1].kill()
+        talk.present[1].process.kill()
         with self.assertRaises(LifeOver):
             talk.call("x")
         self.assertEqual(talk.call("x").note, "did x")

@@ -10,8 +10,8 @@ import urllib.parse
 from unittest import mock
 
 from agent import trees
-from agent.chunks import chunk_names
-from agent.faults import FarmFault, Missing, UsageFault
+from agent.chunks import chunk_names, chunk_path
+from agent.faults import ClientGone, FarmFault, Missing, UsageFault
 from agent.hints import Hints, make_key
 from agent.needs import Needs, parts
 from agent.redis_store import RedisStore
@@ -111,7 +111,7 @@ class OverRedis(Carries):
         with support.redis_server(self.room) as url:
             one, other = (RedisStore(url, self.path(name), "t", b"k") for name in "ab")
             self.write("tree/f", "text" * 1000)
-            index, digest = trees.keep(one, self.path("tree"))
+            index, digest = support.kept(one, self.path("tree"))
             name = f"t:chunk:{chunk_names(index)[0]}"
             sealed = one.server.call("GET", name)
             for bad in (sealed[:-1] + bytes([sealed[-1] ^ 1]), b"", b"x" * 500):
@@ -125,6 +125,18 @@ class OverRedis(Carries):
             trees.extract(other, index, self.path("out"))
             self.assertEqual(self.read("out/f"), "text" * 1000)
             self.assertIsNone(other.index("0" * 64))
+            found = other.fetch
+
+            def fetch(index: bytes) -> None:
+                """Another process, which knows nothing of it, forgets a chunk as soon as it is here."""
+                found(index)
+                if not os.path.exists(self.path("forgotten")):
+                    os.rename(chunk_path(other.chunks, chunk_names(index)[0]), self.path("forgotten"))
+
+            with mock.patch.object(other, "fetch", fetch):
+                trees.extract_whole(other, index, self.path("again"))
+            self.assertEqual(self.read("again/f"), "text" * 1000)
+            self.assertTrue(os.path.exists(self.path("forgotten")))
 
     @unittest.skipUnless(support.has("casync"), support.needs("casync"))
     def test_away(self) -> None:
@@ -132,7 +144,7 @@ class OverRedis(Carries):
         with support.redis_server(self.room) as url:
             store = RedisStore(url, self.path("a"), "t", b"k")
             self.write("tree/f", "text" * 1000)
-            index, digest = trees.keep(store, self.path("tree"))
+            index, digest = support.kept(store, self.path("tree"))
             store.server.call("CONFIG", "SET", "maxmemory", "1")
             with self.assertRaisesRegex(FarmFault, "took no contents: .*maxmemory"):
                 store.publish(index)
@@ -149,7 +161,7 @@ class OverRedis(Carries):
 
     def test_away_late(self) -> None:
         """A server that goes away late in a long sending is waited for as well. One that never gets further isn't, for ever."""
-        now, calls, faults = [0.0], list[str](), dict[int, int]()
+        now, calls, faults, away = [0.0], list[str](), dict[int, int](), list[str]()
 
         def call(commands: list[list[str]]) -> list[int]:
             now[0] += 50
@@ -167,12 +179,16 @@ class OverRedis(Carries):
             mock.patch(f"{module}.chunk_names", lambda index: list("01234567")),
         ):
             faults[6] = 1
-            store._send("8", b"", False)
+            store._send("8", b"", away.append)
             self.assertEqual("".join(name[-1] for name in calls), "0123456012345678")
+            self.assertEqual(away, ["waiting for the store over Redis, which takes no contents: away"])
+            faults[6] = 1
+            with self.assertRaises(ClientGone):  # who hears of it may give up
+                store._send("8", b"", mock.Mock(side_effect=ClientGone))
             faults[6] = 99
             with self.assertRaisesRegex(FarmFault, "took no contents: away"):
-                store._send("8", b"", False)
-            self.assertLess(len(calls), 50)
+                store._send("8", b"", away.append)
+            self.assertLess(len(calls), 60)
 
     @unittest.skipUnless(support.has("casync"), support.needs("casync"))
     def test_forget(self) -> None:
@@ -181,8 +197,8 @@ class OverRedis(Carries):
             self.write("one/f", "a" * 300_000)
             self.write("one/g", "c" * 300_000)
             self.write("two/f", "b" * 300_000)
-            _, one = trees.keep(store, self.path("one"))
-            _, two = trees.keep(store, self.path("two"))
+            _, one = support.kept(store, self.path("one"))
+            _, two = support.kept(store, self.path("two"))
             self.assertEqual(store.forget({one}, 3600), (0, 0))  # all is young
             store.server.call("ZADD", "t:given", 5, f"t:index:{two}")
             store.server.call("SET", "t:chunk:" + "0" * 64, "of an agent that was killed")

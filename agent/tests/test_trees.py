@@ -64,39 +64,39 @@ class Trees(support.RoomTest):
     def test_there_and_back(self) -> None:
         tree = self.tree()
         before = told(tree)
-        index, digest = trees.keep(self.store, tree)
+        index, digest = support.kept(self.store, tree)
         self.assertEqual(told(tree), before)
         self.assertEqual(self.store.index(digest), index)
         trees.extract(self.store, index, self.path("out"))
         self.assertEqual(told(self.path("out")), before)
-        self.assertEqual(trees.keep(self.store, self.path("out")), (index, digest))
+        self.assertEqual(support.kept(self.store, self.path("out")), (index, digest))
 
     def test_kept_or_refused(self) -> None:
         """What couldn't be brought back isn't kept."""
         self.write(f"tree/{'d' * 255}/{'f' * 237}", "x")
         os.symlink("x", self.path(f"tree/{'é' * 118}"))
-        index, _ = trees.keep(self.store, self.path("tree"))
+        index, _ = support.kept(self.store, self.path("tree"))
         trees.extract(self.store, index, self.path("out"))
         self.assertEqual(told(self.path("out")), told(self.path("tree")))
         for name, said in (("f" * 238, "237 bytes"), ("é" * 119, "237 bytes"), ("old", "before 1970")):
             path = self.write(f"bad/{name}", "x")
             os.utime(path, (0, -1 if name == "old" else 0))
             with self.assertRaisesRegex(FarmFault, said):
-                trees.keep(self.store, self.path("bad"))
+                support.kept(self.store, self.path("bad"))
             os.unlink(path)
         os.symlink("x", self.path(f"bad/{'l' * 238}"))
         with self.assertRaisesRegex(FarmFault, "237 bytes"):
-            trees.keep(self.store, self.path("bad"))
+            support.kept(self.store, self.path("bad"))
         os.unlink(self.path(f"bad/{'l' * 238}"))
         os.utime(self.path("bad"), (0, -1))
         with self.assertRaisesRegex(FarmFault, "before 1970"):
-            trees.keep(self.store, self.path("bad"))
+            support.kept(self.store, self.path("bad"))
 
     def test_flag_nodump(self) -> None:
         self.write("tree/kept", "x")
         if not support.has("chattr") or subprocess.run(["chattr", "+d", self.path("tree/kept")], capture_output=True).returncode:
             self.skipTest("this file system has no attribute d")
-        index, _ = trees.keep(self.store, self.path("tree"))
+        index, _ = support.kept(self.store, self.path("tree"))
         trees.extract(self.store, index, self.path("out"))
         self.assertEqual(self.read("out/kept"), "x")
 
@@ -105,12 +105,30 @@ class Trees(support.RoomTest):
         trees.extract(self.store, b"", self.path("out"))
         self.assertEqual(os.listdir(self.path("out")), [])
         os.makedirs(self.path("none"))
-        index, _ = trees.keep(self.store, self.path("none"))
+        index, _ = support.kept(self.store, self.path("none"))
         trees.extract(self.store, index, self.path("out"))
         self.assertEqual(os.listdir(self.path("out")), [])
 
+    def test_killed(self) -> None:
+        """Of a casync that was killed, and so said nothing, the status is told."""
+        self.write("bin/casync", "#!/bin/sh\nkill -9 $$\n")
+        os.chmod(self.path("bin/casync"), 0o755)
+        with mock.patch.dict("os.environ", {"PATH": f"{self.path('bin')}:{os.environ['PATH']}"}):
+            with self.assertRaisesRegex(FarmFault, r"\Acasync make: it ended with status -9\Z"):
+                support.kept(self.store, self.tree())
+
+    def test_in_the_way(self) -> None:
+        """What is at a path already stays, whatever the content."""
+        self.write("mine/f", "x")
+        os.symlink("nowhere", self.path("link"))
+        for name in ("mine", "mine/f", "link"):
+            for index in (b"", b"no index"):
+                with self.assertRaisesRegex(FarmFault, f"{name} is there: name a path"):
+                    trees.extract_whole(self.store, index, self.path(name))
+        self.assertEqual((self.read("mine/f"), os.listdir(self.path("mine"))), ("x", ["f"]))
+
     def test_lost_and_damaged(self) -> None:
-        index, digest = trees.keep(self.store, self.tree())
+        index, digest = support.kept(self.store, self.tree())
         with self.assertRaises(FarmFault):
             chunk_names(index[:-1])
         with self.assertRaises(FarmFault):
@@ -137,7 +155,7 @@ class Trees(support.RoomTest):
         self.write("tree/f", "x")
         subprocess.run([sys.executable, "-c", "import os\nfor i in range(1200): os.mkdir('a'); os.chdir('a')"], cwd=self.path("tree"), check=True)
         with self.assertRaisesRegex(FarmFault, "too many folders within folders"):
-            trees.keep(self.store, self.path("tree"))
+            support.kept(self.store, self.path("tree"))
         self.assertIsNone(signature(self.path("tree")))
         Trash(self.path("home")).take(self.path("tree"))
         support.until(lambda: not os.listdir(self.path("home/trash")), "it is still in the trash")
@@ -151,7 +169,7 @@ class Trees(support.RoomTest):
                 pass
         with self.assertRaisesRegex(FarmFault, "aren't in"):
             self.store.fetch(index)
-        self.assertEqual(trees.keep(self.store, tree)[0], index)
+        self.assertEqual(support.kept(self.store, tree)[0], index)
         trees.extract(self.store, index, self.path("out"))
         self.assertEqual(told(self.path("out")), told(tree))
 
@@ -164,7 +182,7 @@ class Trees(support.RoomTest):
             for path in paths:
                 with open(path, "rb+") as file:
                     file.truncate(rest if rest > 0 else os.path.getsize(path) + rest)
-            self.assertEqual(trees.keep(self.store, tree)[0], index, rest)
+            self.assertEqual(support.kept(self.store, tree)[0], index, rest)
             self.assertEqual(self.store.spoilt(index), [])
         with open(paths[0], "rb+") as file:
             file.seek(10)
@@ -174,12 +192,17 @@ class Trees(support.RoomTest):
         with self.assertRaisesRegex(FarmFault, "1 chunks of a version aren't in"):
             trees.extract_whole(self.store, index, self.path("out2"))
         self.assertFalse(os.path.exists(self.path("out2")))
-        trees.keep(self.store, tree)
+        support.kept(self.store, tree)
         self.assertFalse(self.store.mend(index))
+
+    def test_forget_meanwhile(self) -> None:
+        """What gets its whole name, or is forgotten by another one, while it is looked for is no fault."""
+        with mock.patch("os.walk", return_value=[(self.store.chunks, [], [".new-x"])]), mock.patch("os.listdir", return_value=["0" * 64]):
+            self.assertEqual(self.store.forget(set(), -10), (0, 0))
 
     def test_forget_damaged(self) -> None:
         """Chunks of a content that is needed stay, though its index can't be read: a filter may have it."""
-        index, digest = trees.keep(self.store, self.tree())
+        index, digest = support.kept(self.store, self.tree())
         put_file(f"{self.store.indexes}/{digest}", b"damaged")
         with self.assertRaisesRegex(FarmFault, "isn't readable"):
             self.store.forget({digest}, -1)
@@ -188,8 +211,8 @@ class Trees(support.RoomTest):
     def test_forget(self) -> None:
         self.write("one/f", "a" * 300_000)
         self.write("two/f", "b" * 300_000)
-        one, digest = trees.keep(self.store, self.path("one"))
-        _, other = trees.keep(self.store, self.path("two"))
+        one, digest = support.kept(self.store, self.path("one"))
+        _, other = support.kept(self.store, self.path("two"))
         self.write(f"store/chunks/0000/{'0' * 64}.tmp", "left by a killed casync")
         self.assertEqual(self.store.forget({digest}, 3600), (0, 0))
         indexes, chunks = self.store.forget({digest}, -1)
@@ -305,6 +328,27 @@ class Paths(support.RoomTest):
         places.clear(self.path("workshop"))
         places.forget_within(self.path("link"))
         self.assertEqual([json.loads(self.read(f"home/places/{name}"))[0] for name in os.listdir(places.home)], [self.path("workshop")])
+
+    def test_gone(self) -> None:
+        """What is known of paths that are gone is forgotten, but of those that a command has, or whose file system isn't there."""
+        places = Places(self.path("home"))
+        paths = [self.path(name) for name in ("jobs/1/w", "jobs/2/w", "held", "elsewhere", "stays")]
+        for path in paths:
+            places.clear(path)
+        shutil.rmtree(self.path("jobs"))
+        for path in paths[2:4]:
+            os.rmdir(path)
+        (mark,) = [f"{places.home}/{name}" for name in os.listdir(places.home) if "elsewhere" in self.read(f"home/places/{name}")]
+        with open(mark) as file:
+            known = json.load(file)
+        with open(mark, "w") as file:
+            json.dump([known[0], known[1] + 1, *known[2:]], file)
+        with places.held(self.path("held")):
+            places.forget_gone()
+        left = {json.loads(self.read(f"home/places/{name}"))[0] for name in os.listdir(places.home)}
+        self.assertEqual(left, set(paths[2:]))
+        places.forget_gone()
+        self.assertEqual(len(os.listdir(places.home)), 2)
 
     @unittest.skipUnless(support.is_root, "only root can mount")
     def test_mounted(self) -> None:

@@ -3,7 +3,6 @@ from __future__ import annotations
 
 import unittest
 
-from agent import trees
 from agent.store import FolderStore
 from agent.trials.chaos import Copy
 from agent.trials.verdict import Lines, Told, Verdict, told_of
@@ -46,7 +45,7 @@ class Judged(support.RoomTest):
             self.write(f"made{tokens}{files}/lineage", "".join(f"{token}\n" for token in tokens))
             for name, text in files.items():
                 self.write(f"made{tokens}{files}/{name}", text)
-            return trees.keep(store, self.path(f"made{tokens}{files}"))[1]
+            return support.kept(store, self.path(f"made{tokens}{files}"))[1]
 
         one, two = version("a"), version("a", "b")
         told = [told_of("a", [], 0, "farm: committed 1 locked:x version 1"), told_of("b", [], 0, ""), told_of("c", [], 0, "farm: fenced 9: late")]

@@ -1,12 +1,17 @@
 """The page with the farm's status."""
 from __future__ import annotations
 
+import contextlib
 import http.client
+import io
 import json
 import os
+import socket
 import threading
 import time
 import unittest
+import urllib.error
+import urllib.request
 from typing import Any
 
 from agent import web
@@ -31,16 +36,24 @@ def told(nodes: int, leases: int, folder: str = "locked:c") -> dict[str, Any]:
     }
 
 
+def has_ipv6() -> bool:
+    try:
+        with socket.create_server(("::1", 0), family=socket.AF_INET6):
+            return True
+    except OSError:
+        return False
+
+
 class Served(support.RoomTest):
     """A page whose farm is a value."""
 
-    def serve(self, status: Any) -> int:
+    def serve(self, status: Any, address: str = "127.0.0.1") -> int:
         def read() -> Any:
             if isinstance(status, str):
                 raise FarmFault(status)
             return status
 
-        server = web.Server("127.0.0.1", 0, read)
+        server = web.Server(address, 0, read)
         thread = threading.Thread(target=server.serve_forever, args=(0.05,))
         thread.start()
         self.addCleanup(thread.join)
@@ -48,8 +61,8 @@ class Served(support.RoomTest):
         self.addCleanup(server.shutdown)
         return server.server_port
 
-    def get(self, port: int, path: str, method: str = "GET", **heads: str) -> tuple[int, bytes, str]:
-        link = http.client.HTTPConnection("127.0.0.1", port, timeout=support.PATIENCE)
+    def get(self, port: int, path: str, method: str = "GET", at: str = "127.0.0.1", **heads: str) -> tuple[int, bytes, str]:
+        link = http.client.HTTPConnection(at, port, timeout=support.PATIENCE)
         link.request(method, path, headers=heads)
         answer = link.getresponse()
         data = answer.read()
@@ -71,6 +84,54 @@ class Answers(Served):
         self.assertEqual(self.get(port, "/status.json", Host="evil.example")[0], 403)
         self.assertEqual(self.get(port, "/", Host=f"localhost:{port}")[0], 200)
         self.assertEqual(self.get(self.serve("no farm answers"), "/status.json")[:2], (503, b"no farm answers"))
+
+    def test_gone(self) -> None:
+        """Who asks and is gone before the answer is nobody's fault."""
+        server = web.Server("127.0.0.1", 0, lambda: told(1, 1)["what"])
+        self.addCleanup(server.server_close)
+        host = f"Host: 127.0.0.1:{server.server_port}\r\n\r\n".encode()
+        for asked, said in ((b"GET / HTTP/1.1\r\n" + host, ""), (b"GET / HT", ""), (b"GET /status.json HTTP/1.1\r\n" + host, "KeyError: 'what'")):
+            ours, theirs = socket.socketpair()
+            theirs.sendall(asked)
+            theirs.close()
+            with contextlib.redirect_stderr(io.StringIO()) as heard:
+                server.process_request_thread(ours, ("", 0))
+            self.assertRegex(heard.getvalue(), f"{said}\\n" if said else r"\A\Z")
+
+    @unittest.skipUnless(has_ipv6(), "there is no IPv6 here")
+    def test_ipv6(self) -> None:
+        everywhere = self.serve(told(1, 1), "::")
+        for at in ("127.0.0.1", "::1"):
+            self.assertEqual(self.get(everywhere, "/", at=at, Host="a.name:80")[0], 200, at)
+        for address, at in (("::1", "::1"), ("::ffff:127.0.0.1", "127.0.0.1")):
+            port = self.serve(told(1, 1), address)
+            for host, status in ((f"[{address}]:{port}", 200), (f"localhost:{port}", 200), ("evil.example", 403), (f"[::2]:{port}", 403)):
+                self.assertEqual(self.get(port, "/status.json", at=at, Host=host)[0], status, (address, host))
+
+
+class Addresses(support.FarmTest):
+    @unittest.skipUnless(has_ipv6(), "there is no IPv6 here")
+    def test_url(self) -> None:
+        page = self.begin("web", "--port", "0", "--address", "::1")
+        assert page.stdout
+        url = page.stdout.readline().strip()
+        self.assertRegex(url, r"\Ahttp://\[::1\]:[0-9]+/\Z")
+        with urllib.request.urlopen(url, timeout=support.PATIENCE) as answer:
+            self.assertEqual(answer.status, 200)
+        with self.assertRaises(urllib.error.HTTPError) as none:
+            urllib.request.urlopen(f"{url}status.json", timeout=support.PATIENCE)
+        with none.exception as said:
+            self.assertIn(b"no farm answers", said.read())
+        page.terminate()
+        self.assertEqual((page.communicate(timeout=support.PATIENCE), page.returncode), (("", ""), 0))
+
+    def test_unusable(self) -> None:
+        """What is no address of this machine is told in one sentence."""
+        for address in ("", "nowhere.invalid", "a..b", "\udcff", "2001:db8::1", "192.0.2.1"):
+            said = self.asked("web", "--port", "0", f"--address={address}", status=70)
+            self.assertRegex(said, r"\Afarm: no page at '[^\n]*', port 0: [^\n]+\n\Z")
+        for port in ("-1", "65536"):
+            self.assertIn("0-65535", self.asked("web", "--port", port, status=70))
 
 
 @unittest.skipUnless(support.has("chromium"), support.needs("chromium"))

@@ -27,7 +27,11 @@ class Words(unittest.TestCase):
     def test_wants(self) -> None:
         want = want_of("ro=locked:a=b=/tmp/x")
         self.assertEqual((want.folder, want.path, want.writable, want.word), ("locked:a=b", "/tmp/x", False, "ro=locked:a=b"))
-        for word in ("locked:a", "locked:a b=/x", "a=/x", "=", "locked:a="):
+        for word, folder, path in (("locked:c=/a=b/w", "locked:c", "/a=b/w"), ("locked:a=b=/c=/d", "locked:a=b", "/c=/d"), ("locked:c=w", "locked:c", "w")):
+            self.assertEqual(want_of(word)[:2], (folder, path))
+        with self.assertRaisesRegex(UsageFault, "several ="):
+            want_of("ro=locked:c=label=linux/w")
+        for word in ("locked:a", "locked:a b=/x", "a=/x", "=", "locked:a=", "=/x"):
             with self.assertRaises(UsageFault, msg=word):
                 want_of(word)
         for word, hint in (("locked:a b=/x", "locked:a%20b"), ("locked:\udcff=/x", "locked:%FF")):
