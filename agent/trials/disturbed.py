@@ -124,10 +124,10 @@ def later(seconds: float, does: Callable[..., object], *words: object) -> None:
     timer.start()
 
 
-def publish_late(real: Callable[[Any, bytes], str]) -> Callable[[Any, bytes], str]:
+def publish_late(real: Callable[..., str]) -> Callable[..., str]:
     """Gives the digest of a content that the store will have only later."""
 
-    def publish(made: Any, index: bytes) -> str:
+    def publish(made: Any, index: bytes, *_away: object) -> str:
         later(EARLY, real, made, index)
         return hashlib.sha256(index).hexdigest()
 
