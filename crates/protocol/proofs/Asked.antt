@@ -5,7 +5,7 @@ use Rattle.std.proofs.lemmas.Bool.Decides.{nat_tests}
 use Rattle.std.specs.List.{list_any}
 use Rattle.std.specs.Prelude.{nat_lt}
 use Rattle.protocol.specs.Lists.{In}
-use Rattle.protocol.specs.Names.{leased_wants, Slot, NodeId, Life, Ask}
+use Rattle.protocol.specs.Names.{leased_wants, Slot, NodeId, Life}
 use Rattle.protocol.specs.Machine.{Grant, Parked, Machine, Live, cleared}
 use Rattle.farm_base.specs.declared.message.Request.TheVariants.{Acquire}
 use Rattle.farm_base.specs.declared.message.Why.{Why}
@@ -17,7 +17,7 @@ use Rattle.protocol.specs.Replay.{Farm, run, opening}
 use Rattle.protocol.specs.Follows.{lease_from, Agrees, MayBeGranted, after_life}
 use Rattle.protocol.specs.Meaning.{CouldBeGranted, IsOf}
 use Rattle.protocol.specs.Chronicle.{NoParkedAskCouldBeGranted, EndsNothing, IsNew, EveryAskIsAnswered}
-use Rattle.protocol.proofs.Base.{true_false, eqb_same, any_in, from_any, from_filter, cases_option, node_is, names_same}
+use Rattle.protocol.proofs.Base.{true_false, any_in, from_any, from_filter, cases_option, node_is, names_same}
 use Rattle.protocol.proofs.Steps.{Sound}
 use Rattle.protocol.proofs.Worlds.{moves_inv, start_whole}
 use Rattle.protocol.proofs.Leases.{Core, core_of, grant-lease, find_some, find_none, find_in}

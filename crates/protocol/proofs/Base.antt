@@ -61,6 +61,9 @@ true_false b t f = let bad : true ≡ false = sym t ∙ f in cc
 pub eqb_same : (a : ℕ) → eqb a a ≡ true
 eqb_same a = grind (arith, nat_tests)
 
+pub lt_not : (a b : ℕ) → nat_lt a b ≡ false → b ≤ a
+lt_not a b h = grind (arith, nat_tests)
+
 pub put_same : {A : Type 0} (k : ℕ) (x : A) (f : ℕ → A) → put k x f k ≡ x
 put_same k x f = rw (eqb_same k)
 

@@ -40,6 +40,7 @@ use Rattle.protocol.proofs.Others.{unsaved_ends}
 use Rattle.protocol.proofs.Wanting.{shared_mode}
 use Rattle.protocol.proofs.Asking.{one_ask}
 use Rattle.protocol.proofs.Fitting.{WorldFits}
+use Rattle.protocol.proofs.LastLives.{AllLast, scheduled_last}
 use Rattle.protocol.proofs.Failing.{armed_now, leaves_armed, spent_down}
 use Rattle.protocol.proofs.Schedules.{handled_grew, moves_trans, step_next, run_next, start_fits, from_opening, opening_shows, up_is, up_saved}
 
@@ -451,8 +452,9 @@ module _ (sha : List ℕ → Digest) (k : Limits) (farm : IsFarm sha k) where
         | inr later ↦ inr (e ∷ later.0, later.1, later.2, ap (λ l. e ∷ l) later.3, later.4)
       ]
 
-  headline : (u : World) → Moves sha (start sha) u → (s : Farm) → Shows sha u s → WorldFits k u → Headline sha k s
-  headline u moves s shows fits = record {
+  headline : (u : World) → Moves sha (start sha) u → (s : Farm) → Shows sha u s → WorldFits k u → AllLast k s → Headline sha k s
+  headline u moves s shows fits last = record {
+    greatest = λ n. last n.0;
     instance = λ g x i j private.
         (let made = (moves_inv sha (start sha) u (start_whole sha) moves).0.now.messages (Told (told.Granted g)) (subst (In (Told (told.Granted g))) (sym shows.pool) i) in
         fits.now g made x j private);
@@ -538,7 +540,7 @@ every_version_is_answered sha k farm size events x v i = elim (all_events sha k 
 ]
 
 pub every_schedule_means : EveryScheduleMeans
-every_schedule_means sha k farm size events = (let r = from_opening sha k farm size events in headline sha k farm r.world r.moves (run sha k events (opening sha size)) r.shows (r.fits (start_fits sha k farm)))
+every_schedule_means sha k farm size events = (let r = from_opening sha k farm size events in headline sha k farm r.world r.moves (run sha k events (opening sha size)) r.shows (r.fits (start_fits sha k farm)) (scheduled_last sha k size events))
 
 pub every_farm_is_saved : EveryFarmIsSaved
 every_farm_is_saved sha k farm size events =

@@ -19,7 +19,7 @@ use Rattle.protocol.specs.Ledger.{Limits, Ledger, Lease, Work, begin_work, says,
 use Rattle.protocol.specs.Ledger as ledger
 use Rattle.protocol.specs.Follows.{lease_from, NoLease, Waits, Agrees}
 use Rattle.protocol.specs.Meaning.{instance_of, IsDenied, DeniedBecause}
-use Rattle.protocol.proofs.Base.{true_false, in_append, in_one, from_any, any_none, eqb_same, from_filter, names_same, ge_from}
+use Rattle.protocol.proofs.Base.{true_false, in_append, in_one, from_any, any_none, from_filter, names_same, ge_from}
 use Rattle.protocol.proofs.Leases.{core_of, find_none, find_some, flip_false, parked_part, waits_less, waits_filter}
 use Rattle.protocol.proofs.Trying.{tried_waits, tried-gone, try-gone, waiting_in, waiting_waits}
 use Rattle.protocol.proofs.Parking.{Fewer, fewer_refl, still_free, gives_fewer, recalls-ledger}

@@ -28,6 +28,7 @@ pub mod Owning
 mod Fitting
 mod Ordering
 mod Replying
+mod LastLives
 pub mod Schedules
 mod Failing
 mod Chronicles

@@ -16,7 +16,7 @@ use Rattle.events.specs.declared.answer.CoordRefusal.TheVariants as refusal
 use Rattle.protocol.specs.Ledger.{Limits, Ledger, Work, Lease, begin_work, notes, has_slot, some_lease, is_leased, is_saved, grant_of, retried, holds_wanted, has_ticket, lease_under, is_older, is_older_ask, sees, is_home, newer_life, handled, retires, withdraws, withdrawing, withdrawn, is_at, retire_all, goes, retired, prunes, pruned, is_awaited, nudges, nudge_all, nudged, reread}
 use Rattle.protocol.specs.Follows.{lease_from, Works, Begins_work, Goes_on, Speaks, Agrees, WithdrawIsTaken}
 use Rattle.protocol.specs.Meaning.{Ended, MessageEnds, Of_older_life, By_commit, By_release, WithdrawEnds, RetireEnds, RestartEnds, NoEnds, CoordMeans, Meant}
-use Rattle.protocol.proofs.Base.{true_false, none_some, some_is, eqb_same, slot_eq_is, node_is, any_in, from_any, any_none, in_filter, from_filter, in_map, from_map, ticket_is, put_same, put_other}
+use Rattle.protocol.proofs.Base.{lt_not, true_false, none_some, some_is, eqb_same, slot_eq_is, node_is, any_in, from_any, any_none, in_filter, from_filter, in_map, from_map, ticket_is, put_same, put_other}
 use Rattle.protocol.proofs.Steps.{Sound, later_refl, same_grant}
 use Rattle.protocol.proofs.Leases.{Core, core_of, agrees_from, not_leased, find_some, find_in, waits_filter}
 use Rattle.protocol.proofs.Following.{part_filter, part_none, Sent, notes_follows, now_sound, grant_says, retried_follows, more_sent}
@@ -49,9 +49,6 @@ newer-lives k n l w = elim (cases_Bool (list_any (is_older n l) w.ledger.live ||
 
 lt_is : (a b : ℕ) → nat_lt a b ≡ true → a < b
 lt_is a b h = grind (arith, nat_tests)
-
-lt_not : (a b : ℕ) → nat_lt a b ≡ false → b ≤ a
-lt_not a b h = grind (arith, nat_tests)
 
 filter-not_not : {A : Type 0} (test : A → Bool) (xs : List A) → filter (λ x. not (not (test x))) xs ≡ filter test xs
 filter-not_not test [] = refl

@@ -62,6 +62,7 @@ use Rattle.protocol.proofs.Ordering as ordering
 use Rattle.protocol.proofs.Replying as replying
 use Rattle.protocol.proofs.Wanting as wanting
 use Rattle.protocol.proofs.Noting as noting
+use Rattle.protocol.proofs.LastLives.{why_no_restart}
 use Rattle.protocol.proofs.Moving.{NoneTold, Reached, OnAnswer, asked_does, tenure_does, begun_does, finished_does, aborted_does, resent_does, restarted_does, stops_does, spent_does, fetched_does, brought_does, heard_does, forgotten_does}
 
 -- ---- more messages leave what was so
@@ -1129,9 +1130,6 @@ module _ (sha : List ℕ → Digest) (k : Limits) (farm : IsFarm sha k) where
   no_run g ws (zero, r, i) = none_some (Running ws g r) i
   no_run g ws (suc a, r, i) = none_some (Running ws g r) i
 
-  lt_not : (a b : ℕ) → nat_lt a b ≡ false → b ≤ a
-  lt_not a b h = grind (arith, nat_tests)
-
   restart_plain : (u : World) (s : Farm) (n : NodeId) → Plain sha u s (RestartNode n) n None
   restart_plain u s n = record { finds = refl; rises = λ a n. omega arith; ends = λ said g y h. h; adds = λ said x. refl; lives = λ said f j. refl; coord = λ said m sends. tt; at = refl; heard = refl; apart = λ r. r }
 
@@ -1169,7 +1167,7 @@ module _ (sha : List ℕ → Digest) (k : Limits) (farm : IsFarm sha k) where
             ];
           };
           fits = λ f. record { now = λ g i. f.now g (subst (λ (z : Machine). In (Granted g) z.made) r.machine i); kept = λ y e. f.kept y (sym r.down ∙ e) };
-          fair = (n, refl, there_is s n here, last (u.nodes n.0) (ap (may_restart k) (shows.nodes n.0) ∙ t));
+          fair = (n, refl, there_is s n here, why_no_restart k (u.nodes n.0) (ap (may_restart k) (shows.nodes n.0) ∙ t));
         })
   ]
     where
@@ -1177,9 +1175,6 @@ module _ (sha : List ℕ → Digest) (k : Limits) (farm : IsFarm sha k) where
       not_last x may node_refusal.LivesSpent (inl spent) = (let b = and_parts (not x.spent) (nat_lt x.life.0 k.greatest) may in true_false x.spent spent (not-true x.spent b.0))
       not_last x may node_refusal.LivesSpent (inr le) = (let b = and_parts (not x.spent) (nat_lt x.life.0 k.greatest) may in let lt : x.life.0 < k.greatest = lt_is x.life.0 k.greatest b.1 in omega arith)
       not_last x may r h = absurd h
-
-      last : (x : Node) → may_restart k x ≡ false → (x.spent ≡ true) ⊎ (k.greatest ≤ x.life.0)
-      last x may = elim (cases_Bool x.spent) [ inl t ↦ inl t | inr f ↦ inr (lt_not x.life.0 k.greatest (rw f at may)) ]
 
   -- a nudge sends the Grant of each live grant
   nudged_live : (u : World) (run : Moves sha (start sha) u) (s : Farm) (shows : Shows sha u s) (g : Grant) → Live u.machine g → In (message.Granted g) (nudged k (begin_work s.ledger)).sends

@@ -261,6 +261,8 @@ module _ (sha : List ℕ → Digest) (limits : Limits) where
     pub spent : (node : NodeId)
         → answer farm (RestartNode node) ≡ Err (refusal.Node node_refusal.LivesSpent)
         → ((after farm (RestartNode node)).nodes node.0).spent ≡ true
+    -- and none is before its greatest life
+    pub greatest : (node : NodeId) → (farm.nodes node.0).spent ≡ true → limits.greatest ≤ (farm.nodes node.0).life.0
     -- a failure is armed by its event alone, and stays armed until a save fails so
     pub arms : (kept : Kept) → after farm (FailSave kept) ≡ record farm { armed = Some kept }
     pub armed : (event : Event) → ((kept : Kept) → event ≢ FailSave kept)
