@@ -1,3 +1,4 @@
 mod ShownLemmas
+mod SaysLemmas
 pub mod RuleLemmas
 pub mod PowerLemmas

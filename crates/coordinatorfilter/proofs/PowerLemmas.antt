@@ -1,5 +1,5 @@
 -- What a power failure amid a batch leaves: what the coordinator had decided of the first of its lines.
-use Rattle.std.proofs.Common.{◌≡◌, ◌⊎◌, ℕ, ◌+◌, Bool, true, false, List, [], ◌∷◌, ◌++◌, Option, Some, None, Result, Ok, Err, length, inl, inr, refl, sym, ap, ◌∙◌, subst, append_assoc, length-append, arith}
+use Rattle.std.proofs.Common.{◌≡◌, ◌⊎◌, ℕ, ◌+◌, Bool, true, false, List, [], ◌∷◌, ◌++◌, Option, Some, None, Result, Ok, Err, length, inl, inr, refl, sym, ap, ◌∙◌, subst, length-append, arith}
 use Rattle.std.specs.Prelude.{⊤}
 use Rattle.std.proofs.lemmas.List.{append-nil}
 use Rattle.coordinator.specs.Held.{ledger}
@@ -7,11 +7,9 @@ use Rattle.coordinator.specs.Seen.{Seen}
 use Rattle.coordinator.specs.Settling.{SettlesWhile, Restarts}
 use Rattle.events.specs.declared.answer.CoordRefusal.{CoordRefusal}
 use Rattle.events.specs.declared.answer.CoordRefusal.TheVariants.{Down, SaveFault, BadRecord, NotLive, SlotLeased, NoSuchSlot, TicketsSpent, OutOfMemory, LoadFault, Tenure, TenureHeld, NodeRetired}
-use Rattle.filekeeper.specs.Keepers.{Filed, FileLoads, FileSyncs, IsLeft, file_texts}
+use Rattle.filekeeper.specs.Keepers.{FileLoads, FileSyncs, IsLeft, file_texts}
 use Rattle.ledger.specs.Settling.{SavesIf, Answers, is_save_fault}
 use Rattle.ledger.specs.declared.handled.Handled.{Handled}
-use Rattle.names.specs.declared.digest.Digest.{Digest}
-use Rattle.farm_base.specs.declared.message.Message.{Message}
 use Rattle.protocol.specs.Farm.{farm_limits}
 use Rattle.protocol.specs.Ledger.{Work, Saved, saves}
 use Rattle.protocol.specs.Lists.{In}
@@ -20,7 +18,6 @@ use Rattle.protocol.specs.Processes.{Processes, decided}
 use Rattle.protocol.specs.Processes.CoordinatorDoes.{Is_killed}
 use Rattle.saverecord.specs.declared.refusal.KeeperRefusal.{KeeperRefusal}
 use Rattle.saverecord.specs.declared.refusal.KeeperRefusal.TheVariants.{Fault}
-use Rattle.saverecord.specs.Logs.{saved_in}
 use Rattle.saverecord.specs.Texts.{Texts, with_text, with_texts}
 use Rattle.services.specs.declared.lost.Lost.{Lost}
 use Rattle.services.specs.Served as served
@@ -29,8 +26,8 @@ use Rattle.coordinatorfilter.specs.declared.reply.Reply.{Reply}
 use Rattle.coordinatorfilter.specs.Carried.{Saving, Loading, Syncing, RestartsIf, CarriesOut}
 use Rattle.coordinatorfilter.specs.Written.{Filters}
 use Rattle.coordinatorfilter.specs.Written.Filters.{Calls, Stops, Shows, Drops}
-use Rattle.coordinatorfilter.specs.Rules.{AddsEntry, IsHonest, file_saves, process_of, gone_with, AreOfTheFarm, filter_steps, APowerFailureIsARun, APowerFailureOverFilesIsARun}
-use Rattle.coordinatorfilter.proofs.RuleLemmas.{loads_keep, rests, same_process, does_silently, lines_come, gathered_file}
+use Rattle.coordinatorfilter.specs.Rules.{AddsEntry, IsHonest, file_saves, process_of, gone_with, filter_steps, APowerFailureIsARun, APowerFailureOverFilesIsARun}
+use Rattle.coordinatorfilter.proofs.RuleLemmas.{are_heard, loads_keep, rests, same_process, does_silently, lines_come, gathered_file}
 
 -- ---- texts
 
@@ -278,7 +275,7 @@ module _ {K : Type 0} (saving : Saving K) (loading : Loading K) (syncing : Synci
         | inr before ↦ after_none key limit lines old left (all_left (lasting old.keeper) (kept old.keeper) left all before)
       ] in
       let so_far = lines_come saving loading syncing kept lasting honest sha key limit p [] true were.early were.answers old were.then
-      (λ line message i asks. heard line message (were.among line i) asks) were.answered (rests sha p (process_of kept old) same) in
+      (λ line message i asks. are_heard key lines p.written heard line message (were.among line i) asks) were.answered (rests sha p (process_of kept old) same) in
       same_process sha p _ (gone_with left) [] (ap gone_with were.is)
       (does_silently sha p (process_of kept were.then) (gone_with (kept were.then.keeper)) [] so_far Is_killed)
 

@@ -45,12 +45,24 @@ use Rattle.coordinatorlines.specs.Calls.Asks.{Heard, Own}
 use Rattle.coordinatorfilter.specs.Carried.{Saving, Loading, Syncing, RestartsIf, CarriesOut}
 use Rattle.services.specs.Served as served
 use Rattle.services.specs.Served.{joined, settled_text}
-use Rattle.coordinatorfilter.specs.Written.{IsAnswered, fact_lines, note_line, Filters, Settles}
+use Rattle.coordinatorfilter.specs.Written.{fact_lines, Filters, Settles}
 use Rattle.coordinatorfilter.specs.Written.Filters.{Calls, Stops, Shows, Drops}
-use Rattle.coordinatorfilter.specs.Rules.{AddsEntry, IsHonest, file_saves, memory_of, process_of, AreOfTheFarm, with_coordinator, filter_steps, sends_of, line_messages, messages_of, settled_messages, batch_messages, gone_with, LastsWhileUp, ABatchIsARun, AKillIsARun, AStartIsARun, ABatchOverFilesIsARun, AKillOverFilesIsARun, AStartOverFilesIsARun}
-use Rattle.services.specs.Says.{Says, Says_all}
-use Rattle.services.specs.Says.Says_all.{Says_none, Says_more}
-use Rattle.services.proofs.SaysLemmas.{still_in, nothing_said, said_of, said_both}
+use Rattle.coordinatorfilter.specs.Rules.{AddsEntry, IsHonest, file_saves, memory_of, process_of, with_coordinator, filter_steps, sends_of, line_messages, messages_of, settled_messages, batch_messages, gone_with, LastsWhileUp, ABatchIsARun, AKillIsARun, AStartIsARun, ABatchOverFilesIsARun, AKillOverFilesIsARun, AStartOverFilesIsARun}
+use Rattle.services.specs.Says.{Says, AreOfTheFarm}
+use Rattle.services.specs.Says.Says.{Says_nothing}
+use Rattle.services.proofs.NoteLemmas.{lost_says, unread_says, failed_says}
+use Rattle.services.proofs.SaysLemmas.{still_in, said_of, said_both, both_say}
+use Rattle.coordinatorfilter.proofs.SaysLemmas.{shown_says, facts_say, answer_says}
+
+-- ---- lines from outside
+
+-- what they say to a coordinator was written
+abbrev pub AreHeard : List ℕ → List (List ℕ) → List Message → Type 0
+AreHeard key lines written = (line : List ℕ) (message : ToCoord) → In line lines → Asks key line (Handle message) → In (Said message) written
+
+pub are_heard : (key : List ℕ) (lines : List (List ℕ)) (written : List Message) → AreOfTheFarm key lines written → AreHeard key lines written
+are_heard key lines written farm line message i (Heard sealed at is) = farm sealed (Said message) (subst (λ l. In l lines) at i) is
+are_heard key lines written farm line message i (Own utf own) = absurd own
 
 -- ---- runs of the coordinator
 
@@ -275,7 +287,7 @@ module _ {K : Type 0} (saving : Saving K) (loading : Loading K) (syncing : Synci
       quiet lost sha p (process_of kept new) messages (same_process sha p _ _ messages (ap (process_of kept) (sym same)) h)
 
   pub lines_come : (sha : List ℕ → Digest) (key : List ℕ) (limit : ℕ) (p : Processes) (messages : List Message) (lost : Bool) (lines answers : List (List ℕ)) (old new : Seen K)
-      → AreOfTheFarm key lines p.written → (h : served.Answers (filter_steps saving loading kept key) limit old lines answers new)
+      → AreHeard key lines p.written → (h : served.Answers (filter_steps saving loading kept key) limit old lines answers new)
       → Comes sha p (process_of kept old) messages → Comes sha p (process_of kept new) (messages ++ said_of lost (messages_of saving loading kept key limit old new lines answers h))
   lines_come sha key limit p messages lost [] [] old new heard h c = quiet lost sha p (process_of kept new) messages (same_process sha p _ _ messages (ap (process_of kept) h) c)
   lines_come sha key limit p messages lost [] (a ∷ answers) old new heard h c = absurd h
@@ -288,32 +300,26 @@ module _ {K : Type 0} (saving : Saving K) (loading : Loading K) (syncing : Synci
       subst (Comes sha p (process_of kept new)) (append_assoc messages said (said_of lost more) ∙ ap (λ ms. messages ++ ms) (said_both lost (line_messages h.3) more)) rest
 
   -- what is written says them
-  answer_says : (key facts : List ℕ) (result : Result Handled CoordRefusal) (answer : List ℕ) → IsAnswered key facts result answer → Says key (sends_of result) answer
-  answer_says key facts (Err e) answer is = nothing_said key answer
-  answer_says key facts (Ok h) answer is = record { sent = is.0; notes = facts ++ note_line h.note; sealed = is.1; text_is = is.2 }
-
   line_says : (key : List ℕ) (given : Result (List ℕ) Lost) (answer : List ℕ) (old new : Seen K)
       → (f : Filters saving loading kept key given answer old new) → Says key (line_messages f) answer
-  line_says key given answer old new (Calls call reply asks done (inl written)) = answer_says key (fact_lines reply) reply.answer answer written
-  line_says key given answer old new (Calls call reply asks done (inr out)) = nothing_said key answer
-  line_says key given answer old new (Stops call asks restart out) = nothing_said key answer
-  line_says key given answer old new (Shows question asks same text) = nothing_said key answer
-  line_says key given answer old new (Drops why asks same text) = nothing_said key answer
+  line_says key given answer old new (Calls call reply asks done (inl written)) = answer_says key (fact_lines reply) reply.answer answer (facts_say key reply) written
+  line_says key given answer old new (Calls call reply asks done (inr out)) = subst (Says key []) (sym out) (lost_says key)
+  line_says key given answer old new (Stops call asks restart out) = subst (Says key []) (sym out) (lost_says key)
+  line_says key given answer old new (Shows question asks same (inl text)) = shown_says key old.held question answer text
+  line_says key given answer old new (Shows question asks same (inr out)) = subst (Says key []) (sym out) (lost_says key)
+  line_says key given answer old new (Drops why asks same (inl text)) = subst (Says key []) (sym text) (unread_says key why)
+  line_says key given answer old new (Drops why asks same (inr out)) = subst (Says key []) (sym out) (lost_says key)
 
   lines_say : (key : List ℕ) (limit : ℕ) (lines answers : List (List ℕ)) (old new : Seen K)
-      → (h : served.Answers (filter_steps saving loading kept key) limit old lines answers new) → Says_all key (messages_of saving loading kept key limit old new lines answers h) (joined answers)
-  lines_say key limit [] [] old new h = Says_none
+      → (h : served.Answers (filter_steps saving loading kept key) limit old lines answers new) → Says key (messages_of saving loading kept key limit old new lines answers h) (joined answers)
+  lines_say key limit [] [] old new h = Says_nothing
   lines_say key limit [] (a ∷ answers) old new h = absurd h
   lines_say key limit (l ∷ lines) [] old new h = absurd h
   lines_say key limit (l ∷ lines) (a ∷ answers) old new h =
-      Says_more (line_messages h.3) (messages_of saving loading kept key limit h.1 new lines answers h.4) a (joined answers)
+      both_say key (line_messages h.3) (messages_of saving loading kept key limit h.1 new lines answers h.4) a (joined answers)
       (line_says key h.0 a old h.1 h.3) (lines_say key limit lines answers h.1 new h.4)
 
   -- ---- batches
-
-  -- text that says nothing
-  unsaid : (key text : List ℕ) → Says_all key [] text
-  unsaid key text = subst (Says_all key []) (append-nil text) (Says_more [] [] text [] (nothing_said key text) Says_none)
 
   -- a restart leaves a coordinator down, or with all that is kept lasting
   restart_lasts : (old new : Seen K) (result : Result ⊤ CoordRefusal) → old.down ≡ true → Restarts loading (kept old.keeper) old new result → LastsWhileUp kept new lasting
@@ -334,10 +340,10 @@ module _ {K : Type 0} (saving : Saving K) (loading : Loading K) (syncing : Synci
   restart_lasts old new (Err NodeRetired) down r up = absurd r
 
   made : (sha : List ℕ → Digest) (key : List ℕ) (limit : ℕ) (lines answers : List (List ℕ)) (settled : Settled) (old mid new : Seen K) (p : Processes)
-      → p.coordinator ≡ process_of kept old → AreOfTheFarm key lines p.written → (h : served.Answers (filter_steps saving loading kept key) limit old lines answers mid)
+      → p.coordinator ≡ process_of kept old → AreHeard key lines p.written → (h : served.Answers (filter_steps saving loading kept key) limit old lines answers mid)
       → Settles syncing loading kept lasting mid settled new →
       let messages : List Message = settled_messages settled (messages_of saving loading kept key limit old mid lines answers h) in
-      Comes sha p (process_of kept new) messages × LastsWhileUp kept new lasting × Says_all key messages (settled_text settled answers)
+      Comes sha p (process_of kept new) messages × LastsWhileUp kept new lasting × Says key messages (settled_text settled answers)
   made sha key limit lines answers Lasts old mid new p same heard h s = (
     same_process sha p _ _ (messages_of saving loading kept key limit old mid lines answers h) (process_is mid new s.0.1 s.0.2 (honest.syncs mid.keeper true new.keeper s.0.0))
         (lines_come sha key limit p [] false lines answers old mid heard h (rests sha p (process_of kept old) same)),
@@ -352,18 +358,18 @@ module _ {K : Type 0} (saving : Saving K) (loading : Loading K) (syncing : Synci
       (λ i. record { memory = (ap (λ b. memory_of b (ledger failed.held)) (sym s.1.2)) i; disk = saved_in (sym (honest.syncs mid.keeper false failed.keeper s.1.0) i) }) killed in (
         restarted sha p [] failed new restart s.2 is_failed,
         restart_lasts failed new restart s.1.2 s.2,
-        unsaid key (settled_text (Failed restart) answers),
+        failed_says key restart answers,
       )
 
   pub a_batch_is_a_run : ABatchIsARun saving loading syncing kept lasting
   a_batch_is_a_run sha key limit lines text old new p same heard b =
-      let done = made sha key limit lines b.answers b.settled old b.answered_to new p same heard b.answered b.made in
-      (done.0, done.1, subst (Says_all key (batch_messages saving loading syncing kept lasting key limit lines text old new b)) (sym b.text_is) done.2)
+      let done = made sha key limit lines b.answers b.settled old b.answered_to new p same (are_heard key lines p.written heard) b.answered b.made in
+      (done.0, done.1, subst (Says key (batch_messages saving loading syncing kept lasting key limit lines text old new b)) (sym b.text_is) done.2)
 
   pub a_kill_is_a_run : AKillIsARun saving loading kept
   a_kill_is_a_run sha key limit lines answers old new p same heard h =
       does_silently sha p (process_of kept new) (gone_with (kept new.keeper)) []
-      (lines_come sha key limit p [] true lines answers old new heard h (rests sha p (process_of kept old) same)) Is_killed
+      (lines_come sha key limit p [] true lines answers old new (are_heard key lines p.written heard) h (rests sha p (process_of kept old) same)) Is_killed
 
   pub a_start_is_a_run : AStartIsARun loading kept lasting
   a_start_is_a_run sha keeper new p same taken =

@@ -9,24 +9,20 @@ use Rattle.coordinator.specs.Settling.{TakesUp}
 use Rattle.names.specs.declared.digest.Digest.{Digest}
 use Rattle.names.specs.declared.limits.TheConstants.{NODES}
 use Rattle.farm_base.specs.declared.message.Message.{Message}
-use Rattle.farm_base.specs.declared.message.ToCoord.{ToCoord}
 use Rattle.filekeeper.specs.Keepers.{Filed, GatherSaves, FileGathers, FileSaves, FileLoads, FileSyncs, IsLeft, file_texts}
 use Rattle.protocol.specs.Farm.{farm_limits}
 use Rattle.protocol.specs.Ledger.{Ledger}
-use Rattle.protocol.specs.Lists.{In}
-use Rattle.protocol.specs.Machine.{Said, Told}
+use Rattle.protocol.specs.Machine.{Told}
 use Rattle.events.specs.declared.answer.CoordRefusal.{CoordRefusal}
 use Rattle.protocol.specs.Processes.{Coordinator, Processes, Runs}
 use Rattle.saverecord.specs.Logs.{saved_in}
 use Rattle.saverecord.specs.Texts.{Texts, with_text}
 use Rattle.saverecord.specs.declared.refusal.KeeperRefusal.{KeeperRefusal}
-use Rattle.coordinatorlines.specs.declared.call.Call.TheVariants.{Handle}
 use Rattle.services.specs.declared.lost.Lost.{Lost}
 use Rattle.services.specs.declared.settled.Settled.{Settled}
 use Rattle.services.specs.declared.settled.Settled.TheVariants.{Lasts, Failed}
-use Rattle.coordinatorlines.specs.Calls.{Asks}
 use Rattle.coordinatorfilter.specs.Carried.{Saving, Loading, Syncing}
-use Rattle.services.specs.Says.{Says_all}
+use Rattle.services.specs.Says.{Says, AreOfTheFarm}
 use Rattle.services.specs.Served.{Steps, Answers, Batch}
 use Rattle.coordinatorfilter.specs.Written.{Filters, Settles}
 use Rattle.coordinatorfilter.specs.Written.Filters.{Calls, Stops, Shows, Drops}
@@ -78,12 +74,6 @@ module _ {K : Type 0} (kept : K → Texts) (seen : Seen K) where
   -- while it is up all that is kept lasts
   abbrev pub LastsWhileUp : (K → Texts) → Type 0
   LastsWhileUp lasting = seen.down ≡ false → lasting seen.keeper ≡ kept seen.keeper
-
--- each of these lines that says something to a coordinator was written by a process: that is the premise on the farm's
--- key
-abbrev pub AreOfTheFarm : List ℕ → List (List ℕ) → List Message → Type 0
-AreOfTheFarm key lines written = (line : List ℕ) (message : ToCoord) → In line lines → Asks key line (Handle message)
-    → In (Said message) written
 
 -- these processes, whose coordinator is this one now and wrote these messages
 abbrev pub with_coordinator : Processes → Coordinator → List Message → Processes
@@ -143,7 +133,7 @@ ABatchIsARun {K} saving loading syncing kept lasting =
     → (b : Batch (filter_steps saving loading kept key) (Settles syncing loading kept lasting) limit lines text old new) →
     let messages : List Message = batch_messages saving loading syncing kept lasting key limit lines text old new b in
     Runs sha farm_limits NODES p (with_coordinator p (process_of kept new) messages) × LastsWhileUp kept new lasting
-    × Says_all key messages text
+    × Says key messages text
 
 -- where a filter is killed amid a batch, of which it answered these lines and wrote nothing, the rules let the
 -- coordinator be killed so: its disk may have what was decided of any of them

@@ -49,8 +49,8 @@ pub fn a_start_is_a_run<K: Keeper>()
     ensures { IsHonest K.saving K.loading K.syncing K.kept K.lasting → AStartIsARun K.loading K.kept K.lasting }
 {}
 
-/// All three over a `FileKeeper` that gathers.
-pub fn kills_and_starts_over_files_are_runs()
+/// Kills, power failures and starts over a `FileKeeper` that gathers.
+pub fn ends_and_starts_over_files_are_runs()
     ensures kills { AKillOverFilesIsARun }
     ensures power_failures { APowerFailureOverFilesIsARun }
     ensures starts { AStartOverFilesIsARun }

@@ -4,3 +4,4 @@ pub mod SpelledLemmas
 pub mod UniqueLemmas
 pub mod WantLemmas
 pub mod WriteLemmas
+pub mod EndLemmas

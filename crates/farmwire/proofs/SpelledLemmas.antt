@@ -1,5 +1,5 @@
 -- The words of a text say the message that the text spells.
-use Rattle.std.proofs.Common.{◌≡◌, ℕ, Bool, true, false, List, [], ◌∷◌, map, refl, sym, ap, ◌∙◌, subst}
+use Rattle.std.proofs.Common.{◌≡◌, ℕ, true, false, List, [], ◌∷◌, map, refl, sym, ap, ◌∙◌, subst}
 use Rattle.std.specs.Prelude.{decimal}
 use Rattle.std.specs.List.{All, join_with_byte}
 use Rattle.std.specs.Str.{IsUtf8}
@@ -327,7 +327,7 @@ saying (to.ToNode (to_node.Blob n content)) h = record {
   words_are = refl;
 }
 
-saying_words : {m : Message} (s : Saying m) → All IsWord (verb_text s.verb ∷ s.behind)
+pub saying_words : {m : Message} (s : Saying m) → All IsWord (verb_text s.verb ∷ s.behind)
 saying_words {m} s = All-cons IsWord (verb_text s.verb) s.behind (verb_word s.verb) (said_are_words s.verb s.behind m s.says)
 
 -- the words of a text that spells a message spell it

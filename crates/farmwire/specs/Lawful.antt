@@ -1,6 +1,6 @@
 -- The messages that have a line: their numbers are in their ranges, so what a coordinator reads can be handled by it
 -- (`Coordinator::handle` asks for the ranges of `IsSaid`).
-use Rattle.std.specs.Prelude.{◌≡◌, ℕ, ◌≤◌, ◌<◌, ◌^◌, Bool, true, false, List, [], ◌∷◌}
+use Rattle.std.specs.Prelude.{◌≡◌, ℕ, ◌≤◌, ◌<◌, ◌^◌, true, false, List, [], ◌∷◌}
 use Rattle.std.specs.List.{All}
 use Rattle.names.specs.declared.folder.FolderName.{FolderName}
 use Rattle.names.specs.declared.folder.Mode.TheVariants.{Shared}

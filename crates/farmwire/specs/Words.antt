@@ -1,5 +1,5 @@
 -- What the words of a text say: a verb, and after it what the verb takes.
-use Rattle.std.specs.Prelude.{◌≡◌, ℕ, Bool, false, true, List, [], ◌∷◌, ◌++◌, map, codes}
+use Rattle.std.specs.Prelude.{◌≡◌, ℕ, false, true, List, [], ◌∷◌, ◌++◌, map, codes}
 use Rattle.std.specs.List.{All}
 use Rattle.names.specs.declared.digest.Digest.{Digest}
 use Rattle.names.specs.declared.folder.FolderName.{FolderName}

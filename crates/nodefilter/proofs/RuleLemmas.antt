@@ -33,30 +33,32 @@ use Rattle.protocol.specs.Processes.Runs.{Rests, Goes_on}
 use Rattle.protocol.specs.World.{Node, has_life}
 use Rattle.services.specs.declared.lost.Lost.{Lost}
 use Rattle.services.specs.Buffers.{IsKept}
-use Rattle.services.specs.Says.{Says, Says_all}
-use Rattle.services.specs.Says.Says_all.{Says_none, Says_more}
+use Rattle.services.specs.Says.{Says, AreOfTheFarm}
+use Rattle.services.specs.Says.Says.{Says_nothing}
 use Rattle.services.specs.Served as served
 use Rattle.services.specs.Served.{joined, settled_text}
 use Rattle.protocol.proofs.Following.{part_refl, part_none}
-use Rattle.services.proofs.SaysLemmas.{still_in, nothing_said, said_of, said_both}
-use Rattle.nodelines.specs.declared.about.About.{About}
-use Rattle.nodelines.specs.declared.about.About.TheVariants as about
+use Rattle.services.proofs.SaysLemmas.{still_in, said_of, said_both, both_say}
+use Rattle.services.proofs.NoteLemmas.{lost_says, unread_says}
 use Rattle.nodefilter.specs.declared.filter.NodeFilter.{NodeFilter}
 use Rattle.nodelines.specs.declared.order.Call.{Call}
 use Rattle.nodelines.specs.declared.order.Call.TheVariants as call
 use Rattle.nodelines.specs.declared.order.Order.{Order}
 use Rattle.nodelines.specs.declared.order.Order.TheVariants as order
+use Rattle.nodelines.proofs.OwnLemmas.{no_message}
+use Rattle.words.specs.Words.{words}
 use Rattle.nodefilter.specs.Asked.{AsksFor, Orders}
-use Rattle.nodefilter.specs.Carried.{node_answer, about_call}
-use Rattle.nodefilter.specs.Filters.{IsCallOf, IsAnswered, Makes, Follows, Filters}
+use Rattle.nodefilter.specs.Asked.Orders.{Heard, Own}
+use Rattle.nodefilter.specs.Carried.{node_answer}
+use Rattle.nodefilter.specs.Filters.{IsCallOf, Makes, Follows, Filters}
 use Rattle.nodefilter.specs.Filters.Filters.{Is_down, Does, Drops}
 use Rattle.nodefilter.specs.Filters.Follows.{Calls, Misses, Hands, Has_not, Tells}
 use Rattle.nodefilter.specs.Filters.IsCallOf.{Itself}
 use Rattle.nodefilter.specs.Filters.Makes.{Made, Stopped}
-use Rattle.nodefilter.specs.Rules.{AreOfTheFarm, with_node, node_steps, sends_of, made_messages, followed_messages, line_messages, messages_of, ABatchIsARun, AKillIsARun, AStartIsARun}
+use Rattle.nodefilter.specs.Rules.{with_node, node_steps, sends_of, made_messages, followed_messages, line_messages, messages_of, ABatchIsARun, AKillIsARun, AStartIsARun}
 use Rattle.nodefilter.specs.States.{Seen, seen}
 use Rattle.nodestore.specs.Stores.{Kept}
-use Rattle.nodelines.specs.Written.{note_line}
+use Rattle.nodefilter.proofs.SaysLemmas.{store_fault_says, followed_says, greeting_says}
 use Rattle.nodefilter.proofs.StartLemmas.{kept_stands}
 
 -- ---- runs of a node
@@ -123,6 +125,19 @@ silent p q me x messages said none h = subst (λ ms. Went_on p me x ms q) (sym (
 abbrev AreSaid : Result NodeDone NodeRefusal → List Message → Type 0
 AreSaid (Ok done) said = IsPartOf done.sends said
 AreSaid (Err e) said = said ≡ []
+
+-- ---- lines from outside
+
+-- what they say to the node was written
+abbrev AreHeard : List ℕ → NodeId → List (List ℕ) → List Message → Type 0
+AreHeard key me lines written = (line : List ℕ) (message : ToNode) → In line lines → Orders key me line (order.Call (call.Receive message))
+    → In (to.ToNode message) written
+
+are_heard : (key : List ℕ) (me : NodeId) (lines : List (List ℕ)) (written : List Message) → AreOfTheFarm key lines written → AreHeard key me lines written
+are_heard key me lines written farm line m i (Heard sealed at is) =
+    let same : m ≡ is.mine.message = cc is.mine.asked in
+    subst (λ x. In x written) (is.mine.is ∙ ap to.ToNode (sym same)) (farm sealed is.message (subst (λ l. In l lines) at i) is.opened)
+are_heard key me lines written farm line m i (Own utf asked) = absurd (no_message (words line) m asked)
 
 -- a line that is heard was written
 abbrev MayBeHeard : List Message → Call → Type 0
@@ -303,7 +318,7 @@ line_goes kept last_life limit p q messages lost line answer given old new numbe
 
 -- all lines of a batch
 lines_go : {S : Type 0} (kept : Kept S) (last_life : S → ℕ) (limit : ℕ) (p q : Processes) (messages : List Message) (lost : Bool) (lines answers : List (List ℕ)) (old new : NodeFilter S)
-    → IsNumber NODES (seen old).me → (seen old).at.node ≡ (seen old).me → AreOfTheFarm (seen old).key (seen old).me lines p.written
+    → IsNumber NODES (seen old).me → (seen old).at.node ≡ (seen old).me → AreHeard (seen old).key (seen old).me lines p.written
     → (h : served.Answers (node_steps kept last_life) limit old lines answers new) → Went_on p (seen old).me (seen old).node messages q
     → (later : Processes) × Went_on p (seen old).me (seen new).node (messages ++ said_of lost (messages_of kept last_life limit old new lines answers h)) later
 lines_go kept last_life limit p q messages lost [] [] old new number itself heard h w =
@@ -327,27 +342,12 @@ lines_go kept last_life limit p q messages lost (l ∷ lines) (a ∷ answers) ol
     )
 
 -- what is written says them
-answer_says : (down : Bool) (key : List ℕ) (it : About) (result : Result NodeDone NodeRefusal) (answer : List ℕ) → IsAnswered down key it result answer → Says key (sends_of down result) answer
-answer_says true key it result answer is = nothing_said key answer
-answer_says false key it (Err e) answer is = nothing_said key answer
-answer_says false key it (Ok done) answer is = record { sent = is.sent; notes = note_line it done.note; sealed = is.sends; text_is = is.text_is }
-
-made_says : {S : Type 0} (kept : Kept S) (last_life : S → ℕ) (c : Call) (answer : List ℕ) (old new : Seen S) → (f : Makes kept last_life c old new answer) → Says old.key (made_messages f) answer
-made_says kept last_life c answer old new (Made done carries (inl written)) = answer_says new.down old.key (about_call c) done answer written
-made_says kept last_life c answer old new (Made done carries (inr out)) = nothing_said old.key answer
-made_says kept last_life c answer old new (Stopped same out) = nothing_said old.key answer
-
-followed_says : {S : Type 0} (kept : Kept S) (last_life : S → ℕ) (o : Order) (answer : List ℕ) (old new : Seen S) → (f : Follows kept last_life o old new answer) → Says old.key (followed_messages f) answer
-followed_says kept last_life o answer old new (Calls c is makes) = made_says kept last_life c answer old new makes
-followed_says kept last_life o answer old new (Misses file same text) = nothing_said old.key answer
-followed_says kept last_life o answer old new (Hands digest file is stored same text) = nothing_said old.key answer
-followed_says kept last_life o answer old new (Has_not digest file is none same text) = nothing_said old.key answer
-followed_says kept last_life o answer old new (Tells ask is same text) = nothing_said old.key answer
-
 line_says : {S : Type 0} (kept : Kept S) (last_life : S → ℕ) (given : Result (List ℕ) Lost) (answer : List ℕ) (old new : Seen S) → (f : Filters kept last_life given answer old new) → Says old.key (line_messages f) answer
-line_says kept last_life given answer old new (Is_down down same text) = nothing_said old.key answer
+line_says kept last_life given answer old new (Is_down down same (inl text)) = subst (Says old.key []) (sym text) (store_fault_says old.key)
+line_says kept last_life given answer old new (Is_down down same (inr out)) = subst (Says old.key []) (sym out) (lost_says old.key)
 line_says kept last_life given answer old new (Does o up asks follows) = followed_says kept last_life o answer old new follows
-line_says kept last_life given answer old new (Drops why up nothing_asked same text) = nothing_said old.key answer
+line_says kept last_life given answer old new (Drops why up nothing_asked same (inl text)) = subst (Says old.key []) (sym text) (unread_says old.key why)
+line_says kept last_life given answer old new (Drops why up nothing_asked same (inr out)) = subst (Says old.key []) (sym out) (lost_says old.key)
 
 key_stays : {S : Type 0} (kept : Kept S) (last_life : S → ℕ) (given : Result (List ℕ) Lost) (answer : List ℕ) (old new : Seen S) → Filters kept last_life given answer old new → new.key ≡ old.key
 key_stays kept last_life given answer old new (Is_down down same text) = ap (λ f. f.key) same
@@ -360,36 +360,32 @@ key_stays kept last_life given answer old new (Does o up asks (Tells ask is same
 key_stays kept last_life given answer old new (Drops why up nothing_asked same text) = ap (λ f. f.key) same
 
 lines_say : {S : Type 0} (kept : Kept S) (last_life : S → ℕ) (limit : ℕ) (lines answers : List (List ℕ)) (old new : NodeFilter S) → (h : served.Answers (node_steps kept last_life) limit old lines answers new)
-    → Says_all (seen old).key (messages_of kept last_life limit old new lines answers h) (joined answers)
-lines_say kept last_life limit [] [] old new h = Says_none
+    → Says (seen old).key (messages_of kept last_life limit old new lines answers h) (joined answers)
+lines_say kept last_life limit [] [] old new h = Says_nothing
 lines_say kept last_life limit [] (a ∷ answers) old new h = absurd h
 lines_say kept last_life limit (l ∷ lines) [] old new h = absurd h
 lines_say kept last_life limit (l ∷ lines) (a ∷ answers) old new h =
     let rest = lines_say kept last_life limit lines answers h.1 new h.4 in
-    Says_more (line_messages h.3) (messages_of kept last_life limit h.1 new lines answers h.4) a (joined answers) (line_says kept last_life h.0 a (seen old) (seen h.1) h.3)
-    (subst (λ k. Says_all k (messages_of kept last_life limit h.1 new lines answers h.4) (joined answers)) (key_stays kept last_life h.0 a (seen old) (seen h.1) h.3) rest)
+    both_say (seen old).key (line_messages h.3) (messages_of kept last_life limit h.1 new lines answers h.4) a (joined answers) (line_says kept last_life h.0 a (seen old) (seen h.1) h.3)
+    (subst (λ k. Says k (messages_of kept last_life limit h.1 new lines answers h.4) (joined answers)) (key_stays kept last_life h.0 a (seen old) (seen h.1) h.3) rest)
 
 -- ---- batches
 
 pub a_batch_is_a_run : {S : Type 0} (kept : Kept S) (last_life : S → ℕ) → ABatchIsARun kept last_life
 a_batch_is_a_run kept last_life limit lines text old new p is heard b =
     let said : List Message = messages_of kept last_life limit old b.answered_to lines b.answers b.answered in
-    let goes = lines_go kept last_life limit p p [] false lines b.answers old b.answered_to is.number is.itself heard b.answered (stays p (seen old).me (seen old).node is.node) in
+    let goes = lines_go kept last_life limit p p [] false lines b.answers old b.answered_to is.number is.itself (are_heard (seen old).key (seen old).me lines p.written heard) b.answered (stays p (seen old).me (seen old).node is.node) in
     let same : new ≡ b.answered_to = b.made.1 in (
       arrives p goes.0 (seen old).me (seen new).node said (moved p goes.0 (seen old).me (seen b.answered_to).node (seen new).node said (ap (λ f. (seen f).node) same) goes.1),
-      subst (Says_all (seen old).key said) (sym (b.text_is ∙ ap (λ s. settled_text s b.answers) b.made.0)) (lines_say kept last_life limit lines b.answers old b.answered_to b.answered),
+      subst (Says (seen old).key said) (sym (b.text_is ∙ ap (λ s. settled_text s b.answers) b.made.0)) (lines_say kept last_life limit lines b.answers old b.answered_to b.answered),
     )
 
 pub a_kill_is_a_run : {S : Type 0} (kept : Kept S) (last_life : S → ℕ) → AKillIsARun kept last_life
 a_kill_is_a_run kept last_life limit lines answers old new p is heard h =
-    let goes = lines_go kept last_life limit p p [] true lines answers old new is.number is.itself heard h (stays p (seen old).me (seen old).node is.node) in
+    let goes = lines_go kept last_life limit p p [] true lines answers old new is.number is.itself (are_heard (seen old).key (seen old).me lines p.written heard) h (stays p (seen old).me (seen old).node is.node) in
     arrives p goes.0 (seen old).me (seen new).node [] goes.1
 
 -- ---- the next life
-
-one_says : (key text : List ℕ) (messages : List Message) → Says key messages text → Says_all key messages text
-one_says key text messages h =
-    subst (λ ms. Says_all key ms text) (append-nil messages) (subst (Says_all key (messages ++ [])) (append-nil text) (Says_more messages [] text [] h Says_none))
 
 -- a restart isn't after the greatest life
 below : (a b : ℕ) → nat_lt a b ≡ true → a + 1 ≤ b
@@ -412,10 +408,5 @@ a_start_is_a_run kept last_life origin started p left begins =
     let sends : greeting ≡ begins.done.sends = ap (λ (w : NodeWork). w.sends) begins.begun in (
       arrives p lives.0 me (seen started.filter).node begins.done.sends
           (subst (λ ms. Went_on p me (seen started.filter).node ms lives.0) sends (moved p lives.0 me (has_life less life.0) (seen started.filter).node greeting is_node lives.1)),
-      one_says origin.key (string_bytes started.greeting) begins.done.sends (record {
-        sent = begins.written.sent;
-        notes = string_bytes origin.facts ++ note_line about.Nothing begins.done.note;
-        sealed = begins.written.sends;
-        text_is = begins.written.text_is;
-      }),
+      greeting_says origin.key origin.skipped.items begins.done (string_bytes started.greeting) begins.written,
     )

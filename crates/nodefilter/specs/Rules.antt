@@ -6,25 +6,20 @@ use Rattle.std.specs.String.{string_bytes}
 use Rattle.names.specs.Contents.{content_digest}
 use Rattle.names.specs.declared.limits.TheConstants.{NODES}
 use Rattle.farm_base.specs.declared.message.Message.{Message}
-use Rattle.farm_base.specs.declared.message.Message.TheVariants as to
-use Rattle.farm_base.specs.declared.message.ToNode.{ToNode}
 use Rattle.names.specs.declared.number.NodeId.{NodeId}
 use Rattle.protocol.specs.Farm.{farm_limits}
 use Rattle.protocol.specs.Lawful.{IsNumber}
-use Rattle.protocol.specs.Lists.{In, put}
+use Rattle.protocol.specs.Lists.{put}
 use Rattle.events.specs.declared.answer.NodeRefusal.{NodeRefusal}
 use Rattle.protocol.specs.Processes.{Processes, Runs}
 use Rattle.protocol.specs.World.{Node}
-use Rattle.services.specs.Says.{Says_all}
+use Rattle.services.specs.Says.{Says, AreOfTheFarm}
 use Rattle.services.specs.Served.{Steps, Answers, Batch}
 use Rattle.nodefilter.specs.declared.filter.NodeFilter.{NodeFilter}
 use Rattle.nodecore.specs.declared.message.NodeDone.{NodeDone}
 use Rattle.services.specs.declared.lost.Lost.{Lost}
 use Rattle.nodelines.specs.declared.order.Call.{Call}
-use Rattle.nodelines.specs.declared.order.Call.TheVariants as call
 use Rattle.nodelines.specs.declared.order.Order.{Order}
-use Rattle.nodelines.specs.declared.order.Order.TheVariants as order
-use Rattle.nodefilter.specs.Asked.{Orders}
 use Rattle.nodefilter.specs.Filters.{Makes, Follows, Filters, IsSettled}
 use Rattle.nodefilter.specs.Filters.Makes.{Made, Stopped}
 use Rattle.nodefilter.specs.Filters.Follows.{Calls, Misses, Hands, Has_not, Tells}
@@ -34,11 +29,6 @@ use Rattle.nodefilter.specs.declared.starting.Started.{Started}
 use Rattle.nodefilter.specs.Starts.{Begins}
 use Rattle.nodefilter.specs.States.{Seen, seen}
 use Rattle.nodestore.specs.Stores.{Kept}
-
--- each of these lines that says something to the node was written by a process: that is the premise on the farm's key
-abbrev pub AreOfTheFarm : List ℕ → NodeId → List (List ℕ) → List Message → Type 0
-AreOfTheFarm key me lines written = (line : List ℕ) (message : ToNode) → In line lines
-    → Orders key me line (order.Call (call.Receive message)) → In (to.ToNode message) written
 
 -- the filter is one of the farm's nodes, and this is its state among the processes
 pub record IsNodeOf {S : Type 0} (p : Processes) (f : Seen S) : Type 0 where
@@ -116,11 +106,11 @@ module _ {S : Type 0} (kept : Kept S) (last_life : S → ℕ) where
   abbrev pub ABatchIsARun : Type 0
   ABatchIsARun =
       (limit : ℕ) (lines : List (List ℕ)) (text : List ℕ) (old new : NodeFilter S) (p : Processes)
-      → IsNodeOf p (seen old) → AreOfTheFarm (seen old).key (seen old).me lines p.written
+      → IsNodeOf p (seen old) → AreOfTheFarm (seen old).key lines p.written
       → (b : Batch (node_steps kept last_life) IsSettled limit lines text old new) →
       let messages : List Message = batch_messages kept last_life limit lines text old new b in
       Runs content_digest farm_limits NODES p (with_node p (seen old).me (seen new).node messages)
-      × Says_all (seen old).key messages text
+      × Says (seen old).key messages text
 
   -- where the filter is killed amid a batch, of which it answered these lines and wrote nothing, the rules let the node
   -- come as far, and write as little. Its asks are as they were until its next life begins, since an execution may
@@ -128,7 +118,7 @@ module _ {S : Type 0} (kept : Kept S) (last_life : S → ℕ) where
   abbrev pub AKillIsARun : Type 0
   AKillIsARun =
       (limit : ℕ) (lines answers : List (List ℕ)) (old new : NodeFilter S) (p : Processes)
-      → IsNodeOf p (seen old) → AreOfTheFarm (seen old).key (seen old).me lines p.written
+      → IsNodeOf p (seen old) → AreOfTheFarm (seen old).key lines p.written
       → Answers (node_steps kept last_life) limit old lines answers new
       → Runs content_digest farm_limits NODES p (with_node p (seen old).me (seen new).node [])
 
@@ -137,4 +127,4 @@ module _ {S : Type 0} (kept : Kept S) (last_life : S → ℕ) where
   AStartIsARun = (origin : Origin S) (started : Started S) (p : Processes)
       → IsLeftOf p origin → (begins : Begins kept last_life origin started)
       → Runs content_digest farm_limits NODES p (with_node p origin.me (seen started.filter).node begins.done.sends)
-      × Says_all origin.key begins.done.sends (string_bytes started.greeting)
+      × Says origin.key begins.done.sends (string_bytes started.greeting)

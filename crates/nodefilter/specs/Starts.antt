@@ -1,6 +1,9 @@
 -- How the process of a node begins (this project's own).
-use Rattle.std.specs.Prelude.{◌≡◌, ℕ, true, false, []}
+use Rattle.std.specs.Prelude.{◌≡◌, ℕ, true, false, List, [], ◌++◌, codes}
+use Rattle.std.specs.List.{flat_map}
 use Rattle.std.specs.String.{string_bytes}
+use Rattle.names.specs.declared.digest.Digest.{Digest}
+use Rattle.words.specs.Words.{digits_text}
 use Rattle.nodecore.specs.declared.message.NodeDone.{NodeDone}
 use Rattle.nodeasks.specs.Rows.{none_lost}
 use Rattle.nodecore.specs.Shown.{work_of}
@@ -18,6 +21,10 @@ use Rattle.nodelines.specs.Written.{IsDone}
 abbrev pub place_in : {S : Type 0} → Origin S → Place
 place_in origin = record { node = origin.me; nodes = origin.nodes }
 
+-- `: skipped DIGEST`
+abbrev pub skipped_fact : Digest → List ℕ
+skipped_fact digest = codes ": skipped " ++ digits_text digest ++ codes "\n"
+
 -- the node is what a restart makes of what was kept; its life is kept, and the greeting says it
 pub record Begins {S : Type 0} (kept : Kept S) (last_life : S → ℕ) (origin : Origin S)
     (started : Started S) : Type 0 where
@@ -32,4 +39,4 @@ pub record Begins {S : Type 0} (kept : Kept S) (last_life : S → ℕ) (origin :
   pub up : (seen started.filter).down ≡ false
   pub life : last_life (seen started.filter).store ≡ (seen started.filter).node.life.0
   pub sound : IsSound kept (seen started.filter)
-  pub written : IsDone origin.key (string_bytes origin.facts) about.Nothing done (string_bytes started.greeting)
+  pub written : IsDone origin.key (flat_map skipped_fact origin.skipped.items) about.Nothing done (string_bytes started.greeting)

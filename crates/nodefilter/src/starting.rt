@@ -1,18 +1,22 @@
 //! How the process of a node begins.
-ghost use Rattle.std.specs.Prelude.{◌≡◌, ◌↔◌, true, false, [], All, Err, IfOk};
+ghost use Rattle.std.specs.Prelude.{◌≡◌, ◌++◌, ◌↔◌, true, false, [], All, Err, IfOk, OnOk};
+ghost use Rattle.std.specs.List.{flat_map};
+ghost use Rattle.std.specs.String.{string_bytes};
 ghost use Rattle.names.specs.Contents.{content_digest};
 ghost use Rattle.nodecontents.specs.Stored.{kept_node};
 ghost use Rattle.protocol.specs.Farm.{farm_limits};
 ghost use Rattle.protocol.specs.Nodes.{may_restart};
-ghost use Rattle.nodefilter.specs.Starts.{Begins};
+ghost use Rattle.nodelines.specs.declared.about.About.TheVariants as about;
+ghost use Rattle.nodelines.specs.Written.{IsDone};
+ghost use Rattle.nodefilter.specs.Starts.{skipped_fact, Begins};
 
 use super::filter::NodeFilter;
-use farm_base::{Content, Life, NodeId};
+use farm_base::{Content, Digest, Key, Life, NodeId};
 use farmwire::FarmKey;
-use nodecore::{KeptContents, NodeCore, ResumeRefusal};
+use nodecore::{KeptContents, NodeCore, NodeDone, ResumeRefusal};
 use nodelines::{About, print_done};
 use nodestore::Store;
-use std::alloc::Global;
+use std::alloc::{AllocError, Global};
 use thiserror::Error;
 
 /// What the process of a node begins from.
@@ -25,8 +29,8 @@ pub struct Origin<S: Store> {
     pub store: S,
     /// What the store kept.
     pub contents: Vec<Content>,
-    /// What is told in the greeting: facts, a line each.
-    pub facts: String,
+    /// The digests of contents that the store has in name alone: the greeting tells them.
+    pub skipped: Vec<Digest>,
     /// The last life of the node, or any greater one that no process had.
     pub last: Life,
 }
@@ -49,6 +53,40 @@ pub struct Started<S: Store> {
     pub greeting: String,
 }
 
+/// Adds the fact of a content whose file has other bytes.
+fn push_skipped(alloc: Global, facts: &mut String, digest: Digest) -> Result<(), AllocError>
+    ensures { OnOk result (string_bytes facts.new ≡ string_bytes facts.old ++ skipped_fact digest) }
+{
+    let digits = Key(digest).to_text(alloc)?;
+    facts.push_str(": skipped ")?;
+    facts.push_str(digits.as_str())?;
+    facts.push_str("\n")
+}
+
+/// The facts of all of them.
+fn skipped_facts(alloc: Global, skipped: &[Digest]) -> Result<String, AllocError>
+    ensures { IfOk result (λ facts. string_bytes facts ≡ flat_map skipped_fact skipped.now) }
+{
+    let mut facts = String::new(alloc);
+    for digest in skipped {
+        push_skipped(alloc, &mut facts, *digest)?;
+    }
+    Ok(facts)
+}
+
+/// What a node writes first.
+fn greeting(
+    alloc: Global,
+    key: &FarmKey,
+    skipped: &[Digest],
+    done: NodeDone,
+) -> Result<String, AllocError>
+    ensures { IfOk result (λ text. IsDone key.now (flat_map skipped_fact skipped.now) about.Nothing done (string_bytes text)) }
+{
+    let facts = skipped_facts(alloc, skipped)?;
+    print_done(alloc, key, facts.as_str(), &About::Nothing, done)
+}
+
 /// Begins the life after the last one: it is kept before its greeting is handed out. The executions of the last one have to be over.
 pub fn start<S: Store>(alloc: Global, origin: Origin<S>) -> Result<Started<S>, StartFault>
     requires { All (λ content. S.kept origin.store (content_digest content) ≡ true) origin.contents.items }
@@ -61,7 +99,7 @@ pub fn start<S: Store>(alloc: Global, origin: Origin<S>) -> Result<Started<S>, S
         key,
         mut store,
         contents,
-        facts,
+        skipped,
         last,
     } = origin;
     let kept = KeptContents {
@@ -76,7 +114,7 @@ pub fn start<S: Store>(alloc: Global, origin: Origin<S>) -> Result<Started<S>, S
     if store.keep_life(core.life()).is_err() {
         return Err(StartFault::NotKept);
     }
-    let Ok(greeting) = print_done(alloc, &key, facts.as_str(), &About::Nothing, done) else {
+    let Ok(greeting) = greeting(alloc, &key, skipped.as_slice(), done) else {
         return Err(StartFault::OutOfMemory);
     };
     let filter = NodeFilter {

@@ -53,8 +53,8 @@ pub enum OpenFault {
 #[derive(Drop)]
 pub struct Found {
     pub contents: Vec<Content>,
-    /// The names of files that have other bytes than their names say.
-    pub wrong: Vec<String>,
+    /// The digests that files have as their names, but not their bytes.
+    pub wrong: Vec<Digest>,
 }
 
 impl From<AllocError> for OpenFault {
@@ -162,19 +162,19 @@ fn last_life<R: Files>(
 }
 
 impl<'a, R: Files> FileStore<'a, R> {
-    /// Takes a content as kept, where the file's bytes are those that its name says.
-    fn find(&mut self, alloc: Global, name: &str, found: &mut Found) -> io::Result<()>
+    /// Takes the content of this digest as kept, where its file has such bytes.
+    fn find(&mut self, alloc: Global, digest: Digest, found: &mut Found) -> io::Result<()>
         requires { HasFound self.old found.old }
         ensures { HasFound self.new found.new }
     {
-        let path = format!(in alloc; "{}/contents/{name}", self.folder)?;
+        let name = Key(digest).to_text(alloc)?;
+        let path = format!(in alloc; "{}/contents/{}", self.folder, name)?;
         let Some(bytes) = read_file(self.files, alloc, path.as_str())? else {
             return Ok(());
         };
         let content = Content::of(bytes);
-        let digits = Key(content.digest()).to_text(alloc)?;
-        if digits.as_str() != name {
-            found.wrong.push(String::from_str(alloc, name)?)?;
+        if content.digest() != digest {
+            found.wrong.push(digest)?;
             return Ok(());
         }
         self.digests.push(content.digest())?;
@@ -182,16 +182,16 @@ impl<'a, R: Files> FileStore<'a, R> {
         Ok(())
     }
 
-    /// Takes the contents of these names as kept, where their bytes are those that the names say.
-    fn find_all(&mut self, alloc: Global, names: &[String]) -> io::Result<Found>
+    /// Takes the contents of these digests as kept, where their files have such bytes.
+    fn find_all(&mut self, alloc: Global, digests: &[Digest]) -> io::Result<Found>
         ensures { IfOk result (λ found. HasFound self.new found) }
     {
         let mut found = Found {
             contents: Vec::new(alloc),
             wrong: Vec::new(alloc),
         };
-        for name in names {
-            self.find(alloc, name.as_str(), &mut found)?;
+        for digest in digests {
+            self.find(alloc, *digest, &mut found)?;
         }
         Ok(found)
     }
@@ -243,33 +243,32 @@ impl<'a, R: Files> FileStore<'a, R> {
     }
 }
 
-/// The names of the contents that a folder has: 64 digits each. What was being written when a process ended has another name.
-fn names_in<R: Files + Alloc + Clone + Drop>(
+/// The digests that files of a folder have as their names. What was being written when a process ended has another name.
+fn digests_in<R: Files + Alloc + Clone + Drop>(
     rt: &R,
     alloc: Global,
     folder: &str,
-) -> io::Result<Vec<String>> {
-    let mut names = Vec::new(alloc);
+) -> io::Result<Vec<Digest>> {
+    let mut digests = Vec::new(alloc);
     for entry in fs::read_dir(rt, folder)? {
         let entry = entry?;
-        let name = entry.file_name();
-        if Key::parse(name).is_ok() {
-            names.push(String::from_str(alloc, name)?)?;
+        if let Ok(key) = Key::parse(entry.file_name()) {
+            digests.push(key.0)?;
         }
     }
-    Ok(names)
+    Ok(digests)
 }
 
-/// The names of the contents that a node's folder has. A process that was killed may have left names that the device doesn't have.
-fn kept_names<R: Files + Alloc + Clone + Drop>(
+/// The digests of the contents that a node's folder has. A process that was killed may have left names that the device doesn't have.
+fn kept_digests<R: Files + Alloc + Clone + Drop>(
     rt: &R,
     alloc: Global,
     folder: &str,
-) -> io::Result<Vec<String>> {
+) -> io::Result<Vec<Digest>> {
     let contents = format!(in alloc; "{folder}/contents")?;
-    let names = names_in(rt, alloc, contents.as_str())?;
+    let digests = digests_in(rt, alloc, contents.as_str())?;
     sync_names(rt, contents.as_str())?;
-    Ok(names)
+    Ok(digests)
 }
 
 /// The store of a node's folder, which is made where there is none. No content is taken as kept yet.
@@ -302,8 +301,8 @@ pub fn open_store<'a, R: Files + Alloc + Clone + Drop>(
     ensures { IfOk result (λ opened. HasFound opened.0 opened.1) }
 {
     let mut store = empty_store(files, alloc, folder, node)?;
-    let names = kept_names(files, alloc, folder)?;
-    let found = store.find_all(alloc, names.as_slice())?;
+    let digests = kept_digests(files, alloc, folder)?;
+    let found = store.find_all(alloc, digests.as_slice())?;
     Ok((store, found))
 }
 

@@ -1,6 +1,8 @@
 -- A farm of these programs: a coordinator over a record in files, and nodes over folders (this project's own). Its
 -- premises are those of protocol's processes, in whose words it is told.
-use Rattle.std.specs.Prelude.{◌≡◌, ℕ, true, List, []}
+use Rattle.std.specs.Prelude.{◌≡◌, ℕ, true, List, [], ◌∷◌, ◌++◌}
+use Rattle.std.specs.String.{string_bytes}
+use Rattle.farmwire.specs.Sealed.{IsSealed}
 use Rattle.coordinator.specs.Seen.{Seen}
 use Rattle.coordinator.specs.Settling.{TakesUp}
 use Rattle.names.specs.Contents.{content_digest}
@@ -17,10 +19,14 @@ use Rattle.nodefilter.specs.States.{seen}
 use Rattle.nodestore.specs.Stores as store
 use Rattle.nodestore.specs.Stores.{has_digest}
 use Rattle.protocol.specs.Farm.{farm_limits}
+use Rattle.protocol.specs.Lists.{In}
+use Rattle.protocol.specs.Machine.{Message}
 use Rattle.protocol.specs.Processes.{Processes, Runs, StaySafe, first_processes}
 use Rattle.saverecord.specs.Logs.{saved_in}
 use Rattle.saverecord.specs.Texts.{Texts}
-use Rattle.coordinatorfilter.specs.Rules.{process_of, gone_with, with_coordinator, file_saves, AreOfTheFarm, filter_steps, batch_messages}
+use Rattle.coordinatorfilter.specs.Rules.{process_of, gone_with, with_coordinator, file_saves, filter_steps, batch_messages}
+use Rattle.processes.specs.Served.{started_text}
+use Rattle.services.specs.Says.{Offers, AreWritten}
 use Rattle.services.specs.Served.{Answers, Batch}
 use Rattle.coordinatorfilter.specs.Written.{Settles}
 
@@ -31,57 +37,83 @@ texts_of f = f.texts
 abbrev pub last_life : store.Filed → ℕ
 last_life folder = folder.last.0
 
--- what one of the programs does, and the processes after it. Each line that opens under the key was written by one of
--- them
-pub data Does (key : List ℕ) (p : Processes) : Processes → Type 0 where
+-- the protocol's processes that the programs are, and the texts that these wrote
+pub record Farm : Type 0 where
+  pub processes : Processes
+  pub texts : List (List ℕ)
+
+-- one of them wrote this text too
+abbrev pub wrote : List ℕ → Processes → Farm → Farm
+wrote text processes farm = record { processes = processes; texts = farm.texts ++ text ∷ [] }
+
+-- nothing was written
+abbrev pub silent : Processes → Farm → Farm
+silent processes farm = record farm { processes = processes }
+
+-- what one of the programs does, and the farm after it. Of the lines that come from outside those that open under the
+-- key stand in texts that were written
+pub data Does (key : List ℕ) (farm : Farm) : Farm → Type 0 where
   -- the coordinator answers lines that come together
   Answers_lines : (limit : ℕ) (lines : List (List ℕ)) (text : List ℕ) (old new : Seen Filed)
-      → p.coordinator ≡ process_of texts_of old → AreOfTheFarm key lines p.written
+      → farm.processes.coordinator ≡ process_of texts_of old → AreWritten key lines farm.texts
       → (b : Batch (filter_steps file_saves FileLoads texts_of key) (Settles FileSyncs FileLoads texts_of file_texts) limit lines text old new)
-      → Does key p (with_coordinator p (process_of texts_of new) (batch_messages file_saves FileLoads FileSyncs texts_of file_texts key limit lines text old new b))
+      → Does key farm (wrote text (with_coordinator farm.processes (process_of texts_of new) (batch_messages file_saves FileLoads FileSyncs texts_of file_texts key limit lines text old new b)) farm)
   -- it is killed when it has answered some, but written nothing
   Is_killed : (limit : ℕ) (lines answers : List (List ℕ)) (old new : Seen Filed)
-      → p.coordinator ≡ process_of texts_of old → AreOfTheFarm key lines p.written
+      → farm.processes.coordinator ≡ process_of texts_of old → AreWritten key lines farm.texts
       → Answers (filter_steps file_saves FileLoads texts_of key) limit old lines answers new
-      → Does key p (with_coordinator p (gone_with new.keeper.texts) [])
+      → Does key farm (silent (with_coordinator farm.processes (gone_with new.keeper.texts) []) farm)
   -- the power fails then, or in the sync that follows. Before the lines came all texts lasted, as they do while a
   -- coordinator is up and answers nothing, and no save has failed since
   Power_fails : (limit : ℕ) (lines answers : List (List ℕ)) (old new : Seen Filed) (left : Texts)
-      → p.coordinator ≡ process_of texts_of old → file_texts old.keeper ≡ old.keeper.texts → AreOfTheFarm key lines p.written
+      → farm.processes.coordinator ≡ process_of texts_of old → file_texts old.keeper ≡ old.keeper.texts
+      → AreWritten key lines farm.texts
       → Answers (filter_steps file_saves FileLoads texts_of key) limit old lines answers new
       → new.keeper.settled ≡ true → IsLeft (file_texts new.keeper) new.keeper.texts left
-      → Does key p (with_coordinator p (gone_with left) [])
+      → Does key farm (silent (with_coordinator farm.processes (gone_with left) []) farm)
   -- it starts from what its files hold
-  Starts : (keeper : Filed) (new : Seen Filed) → p.coordinator.disk ≡ saved_in keeper.texts
+  Starts : (keeper : Filed) (new : Seen Filed) → farm.processes.coordinator.disk ≡ saved_in keeper.texts
       → TakesUp FileLoads keeper.texts keeper new
-      → Does key p (with_coordinator p (process_of texts_of new) [])
+      → Does key farm (wrote started_text (with_coordinator farm.processes (process_of texts_of new) []) farm)
   -- the same of a node
   Node_answers_lines : (limit : ℕ) (lines : List (List ℕ)) (text : List ℕ) (old new : NodeFilter store.Filed)
-      → (seen old).key ≡ key → IsNodeOf p (seen old)
-      → node.AreOfTheFarm (seen old).key (seen old).me lines p.written
+      → (seen old).key ≡ key → IsNodeOf farm.processes (seen old) → AreWritten key lines farm.texts
       → (b : Batch (node_steps has_digest last_life) IsSettled limit lines text old new)
-      → Does key p (with_node p (seen old).me (seen new).node (node.batch_messages has_digest last_life limit lines text old new b))
+      → Does key farm (wrote text (with_node farm.processes (seen old).me (seen new).node (node.batch_messages has_digest last_life limit lines text old new b)) farm)
   Node_is_killed : (limit : ℕ) (lines answers : List (List ℕ)) (old new : NodeFilter store.Filed) → (seen old).key ≡ key
-      → IsNodeOf p (seen old)
-      → node.AreOfTheFarm (seen old).key (seen old).me lines p.written
+      → IsNodeOf farm.processes (seen old) → AreWritten key lines farm.texts
       → Answers (node_steps has_digest last_life) limit old lines answers new
-      → Does key p (with_node p (seen old).me (seen new).node [])
+      → Does key farm (silent (with_node farm.processes (seen old).me (seen new).node []) farm)
   -- it starts from what its folder has, and says so
-  Node_starts : (origin : Origin store.Filed) (started : Started store.Filed) → origin.key ≡ key → IsLeftOf p origin
+  Node_starts : (origin : Origin store.Filed) (started : Started store.Filed) → origin.key ≡ key
+      → IsLeftOf farm.processes origin
       → (begins : Begins has_digest last_life origin started)
-      → Does key p (with_node p origin.me (seen started.filter).node begins.done.sends)
+      → Does key farm (wrote (string_bytes started.greeting) (with_node farm.processes origin.me (seen started.filter).node begins.done.sends) farm)
 
 -- they do one thing after the other
-pub data Comes_to (key : List ℕ) (p : Processes) : Processes → Type 0 where
-  Stays : Comes_to key p p
-  And_then : (q r : Processes) → Comes_to key p q → Does key q r → Comes_to key p r
+pub data Comes_to (key : List ℕ) (farm : Farm) : Farm → Type 0 where
+  Stays : Comes_to key farm farm
+  And_then : (next later : Farm) → Comes_to key farm next → Does key next later → Comes_to key farm later
 
--- so they are processes of the protocol, of which all five clauses hold
+-- what opens under the key in these texts is one of these messages
+abbrev pub AreTold : List ℕ → List (List ℕ) → List Message → Type 0
+AreTold key texts messages = (text sealed : List ℕ) (message : Message) → In text texts → Offers text sealed
+    → IsSealed key sealed message → In message messages
+
+-- the farm's are messages that its processes wrote
+abbrev pub IsTold : List ℕ → Farm → Type 0
+IsTold key farm = AreTold key farm.texts farm.processes.written
+
+-- so they are processes of the protocol, of which all five clauses hold, and the texts say no other messages
 abbrev pub EveryFarmIsARun : Type 0
-EveryFarmIsARun = (key : List ℕ) (p later : Processes) → Comes_to key p later
-    → Runs content_digest farm_limits NODES p later
+EveryFarmIsARun = (key : List ℕ) (farm later : Farm) → IsTold key farm → Comes_to key farm later
+    → Runs content_digest farm_limits NODES farm.processes later.processes × IsTold key later
 
--- the headline, of a farm at some time and later
+-- a farm where nothing happened
+abbrev pub first_farm : Farm
+first_farm = record { processes = first_processes content_digest; texts = [] }
+
+-- the headline, of a farm at some time and later. Its premise on the key is that of each step
 abbrev pub EveryFarmStaysSafe : Type 0
-EveryFarmStaysSafe = (key : List ℕ) (p later : Processes) → Comes_to key (first_processes content_digest) p
-    → Comes_to key p later → StaySafe content_digest p later
+EveryFarmStaysSafe = (key : List ℕ) (farm later : Farm) → Comes_to key first_farm farm → Comes_to key farm later
+    → StaySafe content_digest farm.processes later.processes

@@ -22,7 +22,7 @@ use super::laws::a_farm_is_safe;
 use coordinatorfilter::CoordinatorFilter;
 use coordinatorfilter::laws::{
     a_batch_is_a_run, a_batch_over_files_is_a_run, a_kill_is_a_run, a_power_failure_is_a_run,
-    a_start_is_a_run, kills_and_starts_over_files_are_runs,
+    a_start_is_a_run, ends_and_starts_over_files_are_runs,
 };
 use saverecord::Keeper;
 use services::serve;
@@ -108,7 +108,7 @@ pub fn run_coordinator<R: Files<File = File> + Input + AllocGlobal, W: Write>(
 {
     a_farm_is_safe();
     a_batch_over_files_is_a_run();
-    kills_and_starts_over_files_are_runs();
+    ends_and_starts_over_files_are_runs();
     let key = key_of(rt, place.key)?;
     let _lock = lock_of(rt, place.record)?;
     let coordinator = started(rt, place.record)?;

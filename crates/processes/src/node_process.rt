@@ -14,7 +14,7 @@ use nodefilter::laws::{a_batch_is_a_run, a_kill_is_a_run, a_start_is_a_run};
 use nodefilter::{Origin, StartFault, Started, start};
 use nodestore::{FileStore, OpenFault, Store, open_store};
 use services::serve;
-use std::alloc::{AllocError, Global};
+use std::alloc::Global;
 use std::fs::File;
 use std::io::{self, Read, Write};
 use std::rt::{Clock, Files};
@@ -71,17 +71,6 @@ fn seconds<R: Clock>(rt: &R) -> u64 {
     }
 }
 
-/// The facts of files that don't have the contents that their names say.
-fn skipped(alloc: Global, names: &[String]) -> Result<String, AllocError> {
-    let mut facts = String::new(alloc);
-    for name in names {
-        facts.push_str(": skipped ")?;
-        facts.push_str(name.as_str())?;
-        facts.push_str("\n")?;
-    }
-    Ok(facts)
-}
-
 /// Why a node's folder can't be used.
 fn not_opened(alloc: Global, path: &str, fault: OpenFault) -> ProcessFault {
     match fault {
@@ -120,9 +109,6 @@ fn begun<'a, R: Files + Clock + AllocGlobal + Clone + Drop>(
         Ok(opened) => opened,
         Err(fault) => return Err(not_opened(alloc, place.store, fault)),
     };
-    let Ok(facts) = skipped(alloc, found.wrong.as_slice()) else {
-        return Err(ProcessFault::out_of_memory(alloc));
-    };
     let last = last_before(store.last(), seconds(rt));
     let origin = Origin {
         me: place.node,
@@ -130,7 +116,7 @@ fn begun<'a, R: Files + Clock + AllocGlobal + Clone + Drop>(
         key,
         store,
         contents: found.contents,
-        facts,
+        skipped: found.wrong,
         last,
     };
     match start(alloc, origin) {

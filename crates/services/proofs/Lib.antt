@@ -1,3 +1,4 @@
 mod ServingLemmas
 pub mod SaysLemmas
 pub mod SentLemmas
+pub mod NoteLemmas

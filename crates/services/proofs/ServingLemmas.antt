@@ -7,7 +7,7 @@ use Rattle.std.proofs.lemmas.List.{append-nil}
 use Rattle.services.specs.declared.lost.Lost.{Lost}
 use Rattle.services.specs.Buffers.{BufferParts, HasRead, IsKept}
 use Rattle.services.specs.Lines.{lines_behind, Ends, Grows}
-use Rattle.services.specs.Served.{Steps, Settling, Answers, joined, refused_save, refusals, settled_text, Batch, Batches, Serves, Takes, Writes}
+use Rattle.services.specs.Served.{Steps, Settling, Answers, joined, refused_save, refusals, settled_text, Batches, Serves, Takes, Writes}
 use Rattle.services.specs.Served.Batches.{Begins, Goes_on}
 
 -- ---- what a writer holds

@@ -40,5 +40,5 @@ returns-clause-begun g c =
           (All-weaker (λ (x : List ℕ). g.S.Store.kept origin.store (content_digest x) ≡ true) (λ (x : List ℕ). g.S.Store.kept kept (content_digest x) ≡ true)
           (λ x was. c.keep_life.ensures.contents (content_digest x) (λ e. (cc)) was) origin.contents.items c.requires)
           d content is apart;
-      written = rw c.as_str.ensures.value at c.in-Ok-print_done.ensures;
+      written = rw c.as_slice.ensures.value at c.in-Ok-greeting.ensures;
     }

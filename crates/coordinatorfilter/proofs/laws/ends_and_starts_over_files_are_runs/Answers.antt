@@ -1,6 +1,6 @@
 use Rattle.coordinatorfilter.proofs.PowerLemmas.{power_fails_over_files}
 use Rattle.coordinatorfilter.proofs.RuleLemmas.{kill_over_files, start_over_files}
-use Rattle.coordinatorfilter.proofs.laws.kills_and_starts_over_files_are_runs.Goals as goal
+use Rattle.coordinatorfilter.proofs.laws.ends_and_starts_over_files_are_runs.Goals as goal
 
 pub returns-clause-kills : goal.returns-clause-kills
 returns-clause-kills c = kill_over_files
