@@ -57,10 +57,10 @@ use Rattle.coordinatorfilter.proofs.SaysLemmas.{shown_says, facts_say, answer_sa
 -- ---- lines from outside
 
 -- what they say to a coordinator was written
-abbrev pub AreHeard : List ℕ → List (List ℕ) → List Message → Type 0
-AreHeard key lines written = (line : List ℕ) (message : ToCoord) → In line lines → Asks key line (Handle message) → In (Said message) written
+abbrev pub AreHeard : List Message → List ℕ → List (List ℕ) → Type 0
+AreHeard written key lines = (line : List ℕ) (message : ToCoord) → In line lines → Asks key line (Handle message) → In (Said message) written
 
-pub are_heard : (key : List ℕ) (lines : List (List ℕ)) (written : List Message) → AreOfTheFarm key lines written → AreHeard key lines written
+pub are_heard : (key : List ℕ) (lines : List (List ℕ)) (written : List Message) → AreOfTheFarm key lines written → AreHeard written key lines
 are_heard key lines written farm line message i (Heard sealed at is) = farm sealed (Said message) (subst (λ l. In l lines) at i) is
 are_heard key lines written farm line message i (Own utf own) = absurd own
 
@@ -287,7 +287,7 @@ module _ {K : Type 0} (saving : Saving K) (loading : Loading K) (syncing : Synci
       quiet lost sha p (process_of kept new) messages (same_process sha p _ _ messages (ap (process_of kept) (sym same)) h)
 
   pub lines_come : (sha : List ℕ → Digest) (key : List ℕ) (limit : ℕ) (p : Processes) (messages : List Message) (lost : Bool) (lines answers : List (List ℕ)) (old new : Seen K)
-      → AreHeard key lines p.written → (h : served.Answers (filter_steps saving loading kept key) limit old lines answers new)
+      → AreHeard p.written key lines → (h : served.Answers (filter_steps saving loading kept key) limit old lines answers new)
       → Comes sha p (process_of kept old) messages → Comes sha p (process_of kept new) (messages ++ said_of lost (messages_of saving loading kept key limit old new lines answers h))
   lines_come sha key limit p messages lost [] [] old new heard h c = quiet lost sha p (process_of kept new) messages (same_process sha p _ _ messages (ap (process_of kept) h) c)
   lines_come sha key limit p messages lost [] (a ∷ answers) old new heard h c = absurd h
@@ -340,7 +340,7 @@ module _ {K : Type 0} (saving : Saving K) (loading : Loading K) (syncing : Synci
   restart_lasts old new (Err NodeRetired) down r up = absurd r
 
   made : (sha : List ℕ → Digest) (key : List ℕ) (limit : ℕ) (lines answers : List (List ℕ)) (settled : Settled) (old mid new : Seen K) (p : Processes)
-      → p.coordinator ≡ process_of kept old → AreHeard key lines p.written → (h : served.Answers (filter_steps saving loading kept key) limit old lines answers mid)
+      → p.coordinator ≡ process_of kept old → AreHeard p.written key lines → (h : served.Answers (filter_steps saving loading kept key) limit old lines answers mid)
       → Settles syncing loading kept lasting mid settled new →
       let messages : List Message = settled_messages settled (messages_of saving loading kept key limit old mid lines answers h) in
       Comes sha p (process_of kept new) messages × LastsWhileUp kept new lasting × Says key messages (settled_text settled answers)

@@ -15,9 +15,7 @@ use Rattle.protocol.specs.Processes.{Processes, Runs, ProcessesStaySafe}
 use Rattle.protocol.specs.Processes.Runs.{Rests, Goes_on}
 use Rattle.coordinatorfilter.proofs.PowerLemmas.{power_fails_over_files}
 use Rattle.coordinatorfilter.proofs.RuleLemmas.{over_files, kill_over_files, start_over_files}
-use Rattle.coordinatorfilter.specs.Rules.{batch_messages, file_saves}
-use Rattle.filekeeper.specs.Keepers.{FileLoads, FileSyncs, file_texts}
-use Rattle.processes.specs.Farms.{Farm, texts_of, last_life, Does, AreTold, IsTold, EveryFarmIsARun, EveryFarmStaysSafe, first_farm}
+use Rattle.processes.specs.Farms.{Farm, coordinator_messages, last_life, Does, AreTold, IsTold, EveryFarmIsARun, EveryFarmStaysSafe, first_farm}
 use Rattle.processes.specs.Farms.Does.{Answers_lines, Is_killed, Power_fails, Starts, Node_answers_lines, Node_is_killed, Node_starts}
 use Rattle.processes.specs.Farms.Comes_to.{Stays, And_then}
 use Rattle.processes.specs.Served.{started_text}
@@ -46,15 +44,15 @@ text_cases t (x ∷ texts) text (inl e) P old new = old (inl e)
 text_cases t (x ∷ texts) text (inr i) P old new = text_cases t texts text i P (λ j. old (inr j)) new
 
 -- one more text, and the messages that it says
-tells : (key : List ℕ) (texts : List (List ℕ)) (written messages : List Message) (text : List ℕ) → Says key messages text → AreTold key texts written
-    → AreTold key (texts ++ text ∷ []) (written ++ messages)
+tells : (key : List ℕ) (texts : List (List ℕ)) (written messages : List Message) (text : List ℕ) → Says key messages text → AreTold texts key written
+    → AreTold (texts ++ text ∷ []) key (written ++ messages)
 tells key texts written messages text says told t sealed m i offered is =
     text_cases t texts text i (In m (written ++ messages))
     (λ old. still_in m written messages (told t sealed m old offered is))
     (λ new. later_in m written messages (only_said key messages text says sealed m (subst (λ z. Offers z sealed) new offered) is))
 
 -- no text more
-stays_told : (key : List ℕ) (texts : List (List ℕ)) (written : List Message) → AreTold key texts written → AreTold key texts (written ++ [])
+stays_told : (key : List ℕ) (texts : List (List ℕ)) (written : List Message) → AreTold texts key written → AreTold texts key (written ++ [])
 stays_told key texts written told t sealed m i offered is = still_in m written [] (told t sealed m i offered is)
 
 -- ---- what the programs do
@@ -67,7 +65,7 @@ does_run : (key : List ℕ) (farm later : Farm) → IsTold key farm → Does key
 unfolding Goes
 does_run key farm later told (Answers_lines limit lines text old new same written b) =
     let done = over_files content_digest key limit lines text old new farm.processes same (heard key farm lines told written) b in
-    (done.0, tells key farm.texts farm.processes.written (batch_messages file_saves FileLoads FileSyncs texts_of file_texts key limit lines text old new b) text done.2 told)
+    (done.0, tells key farm.texts farm.processes.written (coordinator_messages key limit lines text old new b) text done.2 told)
 does_run key farm later told (Is_killed limit lines answers old new same written h) = (
   kill_over_files content_digest key limit lines answers old new farm.processes same (heard key farm lines told written) h,
   stays_told key farm.texts farm.processes.written told,

@@ -27,7 +27,7 @@ use Rattle.saverecord.specs.Texts.{Texts}
 use Rattle.coordinatorfilter.specs.Rules.{process_of, gone_with, with_coordinator, file_saves, filter_steps, batch_messages}
 use Rattle.processes.specs.Served.{started_text}
 use Rattle.services.specs.Says.{Offers, AreWritten}
-use Rattle.services.specs.Served.{Answers, Batch}
+use Rattle.services.specs.Served.{Steps, Settling, Answers, Batch}
 use Rattle.coordinatorfilter.specs.Written.{Settles}
 
 abbrev pub texts_of : Filed → Texts
@@ -36,6 +36,22 @@ texts_of f = f.texts
 -- the last life that a node's folder has
 abbrev pub last_life : store.Filed → ℕ
 last_life folder = folder.last.0
+
+-- what a coordinator over files does with a line, how it makes answers last, and the messages of a batch
+abbrev pub coordinator_steps : List ℕ → Steps (Seen Filed)
+coordinator_steps key = filter_steps file_saves FileLoads texts_of key
+
+abbrev pub coordinator_settles : Settling (Seen Filed)
+coordinator_settles = Settles FileSyncs FileLoads texts_of file_texts
+
+abbrev pub coordinator_messages : (key : List ℕ) (limit : ℕ) (lines : List (List ℕ)) (text : List ℕ) (old new : Seen Filed)
+    → Batch (coordinator_steps key) coordinator_settles limit lines text old new → List Message
+coordinator_messages = batch_messages file_saves FileLoads FileSyncs texts_of file_texts
+
+-- the messages of a node's batch
+abbrev pub node_messages : (limit : ℕ) (lines : List (List ℕ)) (text : List ℕ) (old new : NodeFilter store.Filed)
+    → Batch (node_steps has_digest last_life) IsSettled limit lines text old new → List Message
+node_messages = node.batch_messages has_digest last_life
 
 -- the protocol's processes that the programs are, and the texts that these wrote
 pub record Farm : Type 0 where
@@ -56,19 +72,19 @@ pub data Does (key : List ℕ) (farm : Farm) : Farm → Type 0 where
   -- the coordinator answers lines that come together
   Answers_lines : (limit : ℕ) (lines : List (List ℕ)) (text : List ℕ) (old new : Seen Filed)
       → farm.processes.coordinator ≡ process_of texts_of old → AreWritten key lines farm.texts
-      → (b : Batch (filter_steps file_saves FileLoads texts_of key) (Settles FileSyncs FileLoads texts_of file_texts) limit lines text old new)
-      → Does key farm (wrote text (with_coordinator farm.processes (process_of texts_of new) (batch_messages file_saves FileLoads FileSyncs texts_of file_texts key limit lines text old new b)) farm)
+      → (b : Batch (coordinator_steps key) coordinator_settles limit lines text old new)
+      → Does key farm (wrote text (with_coordinator farm.processes (process_of texts_of new) (coordinator_messages key limit lines text old new b)) farm)
   -- it is killed when it has answered some, but written nothing
   Is_killed : (limit : ℕ) (lines answers : List (List ℕ)) (old new : Seen Filed)
       → farm.processes.coordinator ≡ process_of texts_of old → AreWritten key lines farm.texts
-      → Answers (filter_steps file_saves FileLoads texts_of key) limit old lines answers new
+      → Answers (coordinator_steps key) limit old lines answers new
       → Does key farm (silent (with_coordinator farm.processes (gone_with new.keeper.texts) []) farm)
   -- the power fails then, or in the sync that follows. Before the lines came all texts lasted, as they do while a
   -- coordinator is up and answers nothing, and no save has failed since
   Power_fails : (limit : ℕ) (lines answers : List (List ℕ)) (old new : Seen Filed) (left : Texts)
       → farm.processes.coordinator ≡ process_of texts_of old → file_texts old.keeper ≡ old.keeper.texts
       → AreWritten key lines farm.texts
-      → Answers (filter_steps file_saves FileLoads texts_of key) limit old lines answers new
+      → Answers (coordinator_steps key) limit old lines answers new
       → new.keeper.settled ≡ true → IsLeft (file_texts new.keeper) new.keeper.texts left
       → Does key farm (silent (with_coordinator farm.processes (gone_with left) []) farm)
   -- it starts from what its files hold
@@ -79,7 +95,7 @@ pub data Does (key : List ℕ) (farm : Farm) : Farm → Type 0 where
   Node_answers_lines : (limit : ℕ) (lines : List (List ℕ)) (text : List ℕ) (old new : NodeFilter store.Filed)
       → (seen old).key ≡ key → IsNodeOf farm.processes (seen old) → AreWritten key lines farm.texts
       → (b : Batch (node_steps has_digest last_life) IsSettled limit lines text old new)
-      → Does key farm (wrote text (with_node farm.processes (seen old).me (seen new).node (node.batch_messages has_digest last_life limit lines text old new b)) farm)
+      → Does key farm (wrote text (with_node farm.processes (seen old).me (seen new).node (node_messages limit lines text old new b)) farm)
   Node_is_killed : (limit : ℕ) (lines answers : List (List ℕ)) (old new : NodeFilter store.Filed) → (seen old).key ≡ key
       → IsNodeOf farm.processes (seen old) → AreWritten key lines farm.texts
       → Answers (node_steps has_digest last_life) limit old lines answers new
@@ -96,13 +112,13 @@ pub data Comes_to (key : List ℕ) (farm : Farm) : Farm → Type 0 where
   And_then : (next later : Farm) → Comes_to key farm next → Does key next later → Comes_to key farm later
 
 -- what opens under the key in these texts is one of these messages
-abbrev pub AreTold : List ℕ → List (List ℕ) → List Message → Type 0
-AreTold key texts messages = (text sealed : List ℕ) (message : Message) → In text texts → Offers text sealed
+abbrev pub AreTold : List (List ℕ) → List ℕ → List Message → Type 0
+AreTold texts key messages = (text sealed : List ℕ) (message : Message) → In text texts → Offers text sealed
     → IsSealed key sealed message → In message messages
 
 -- the farm's are messages that its processes wrote
 abbrev pub IsTold : List ℕ → Farm → Type 0
-IsTold key farm = AreTold key farm.texts farm.processes.written
+IsTold key farm = AreTold farm.texts key farm.processes.written
 
 -- so they are processes of the protocol, of which all five clauses hold, and the texts say no other messages
 abbrev pub EveryFarmIsARun : Type 0

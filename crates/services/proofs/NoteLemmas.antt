@@ -15,7 +15,8 @@ use Rattle.events.specs.declared.answer.NodeRefusal.TheVariants as node_refusal
 use Rattle.farm_base.specs.declared.message.Grant.{Grant}
 use Rattle.farm_base.specs.declared.message.GrantedSlot.{GrantedSlot}
 use Rattle.farmwire.proofs.EndLemmas.{NoEnd, decimal_ends, slot_ends, why_ends, each_ends}
-use Rattle.schedule.specs.Notes.{granted_text, grant_text, coord_note_text, node_note_text}
+use Rattle.schedule.specs.Notes as replay
+use Rattle.schedule.specs.Notes.{grant_text, coord_note_text, node_note_text}
 use Rattle.schedule.specs.RefusalNames.{coord_refusal_text, node_refusal_text}
 use Rattle.services.specs.declared.settled.Settled.TheVariants.{Failed}
 use Rattle.services.specs.declared.unread.Unread.{Unread}
@@ -118,14 +119,14 @@ of_each text one xs = notes (flat_map text xs) (each_says text one xs)
 
 -- ---- what events did
 
-granted_ends : (s : GrantedSlot) → NoEnd (granted_text s)
+granted_ends : (s : GrantedSlot) → NoEnd (replay.granted_text s)
 granted_ends s =
     Lacks-append 10 ((codes " " ++ slot_text s.slot) ++ codes "=") (decimal s.base)
     (Lacks-append 10 (codes " " ++ slot_text s.slot) (codes "=") (Lacks-append 10 (codes " ") (slot_text s.slot) (Lacks-from_test 10 (codes " ") refl) (slot_ends s.slot)) (Lacks-from_test 10 (codes "=") refl))
     (decimal_ends s.base)
 
 grant_ends : (g : Grant) → NoEnd (grant_text g)
-grant_ends g = Lacks-append 10 (decimal g.ticket.0) (flat_map granted_text g.slots) (decimal_ends g.ticket.0) (each_ends granted_text granted_ends g.slots)
+grant_ends g = Lacks-append 10 (decimal g.ticket.0) (flat_map replay.granted_text g.slots) (decimal_ends g.ticket.0) (each_ends replay.granted_text granted_ends g.slots)
 
 -- words, and what they are about
 about : (word text : List ℕ) → NoEnd word → NoEnd text → NoEnd (word ++ text)

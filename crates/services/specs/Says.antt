@@ -33,7 +33,7 @@ abbrev pub AreOfTheFarm : List ℕ → List (List ℕ) → List Message → Type
 AreOfTheFarm key lines written = (sealed : List ℕ) (message : Message) → In (from_outside sealed) lines
     → IsSealed key sealed message → In message written
 
--- it stands in one of the texts that were
+-- it stands in one of these texts
 abbrev pub AreWritten : List ℕ → List (List ℕ) → List (List ℕ) → Type 0
 AreWritten key lines texts = (sealed : List ℕ) (message : Message) → In (from_outside sealed) lines
     → IsSealed key sealed message → (text : List ℕ) × In text texts × Offers text sealed
