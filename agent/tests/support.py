@@ -24,6 +24,9 @@ TOP = os.path.dirname(os.path.dirname(HERE))
 FARM = (sys.executable, "-IS", f"{TOP}/farm")  # without what the distribution adds it starts faster
 PRACTICE = os.path.join(HERE, "practice.py")
 is_root = os.geteuid() == 0
+# Under nohup, or behind a shell's `&`, these are ignored, and a command that a test ends by one would rightly go on.
+signal.signal(signal.SIGHUP, signal.SIG_DFL)
+signal.signal(signal.SIGINT, signal.default_int_handler)
 PATIENCE = 180.0  # seconds for which something is waited for that comes at once, but for a machine that has much else to do
 
 
