@@ -17,6 +17,7 @@ mod wants;
 pub use answered::{Answer, RefusedEvent};
 pub use command::{Command, answer};
 pub use definition::graph_of;
+pub use draw::Range;
 pub use explanation::{Explanation, events_told, explained};
 pub use failure::Failure;
 pub use record::whole_of;

@@ -1,11 +1,10 @@
 //! The words of the command line.
 #![tactic(auto)]
 
-use answers::Command;
+use answers::{Command, Range};
 use clap::builder::ValueParser;
 use clap::error::ErrorKind;
 use clap::{Arg, ArgAction, ArgMatches, Error};
-use draw::Range;
 use names::{EVENTS, NODES, NodeId};
 use opsproto::LIMIT;
 use processes::{CoordinatorPlace, NodePlace};

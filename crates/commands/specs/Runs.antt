@@ -10,7 +10,7 @@ use Rattle.jobs.specs.declared.answer.Answer.TheVariants.{Waiting, Output, Faile
 use Rattle.saverecord.specs.Logs.{Holds}
 use Rattle.saverecord.specs.Texts.{whole_alone}
 use Rattle.farm.specs.Ends.{failed_in}
-use Rattle.farmhistory.specs.Replays.{farm_after, commits_after}
+use Rattle.farm.specs.Replays.{farm_after, commits_after}
 use Rattle.commands.specs.Acts.{File}
 
 -- `DIGEST`, or `failed`

@@ -10,8 +10,7 @@ ghost use Rattle.commands.specs.Runs.{job_line, job_lines, commits_line, names_o
 use super::acts::{DONE, FAULT, MEMORY, REFUSED, print, print_failure, print_unreadable};
 use answers::{Failure, graph_of};
 use commandline::Order;
-use executions::{Executor, OpenGate};
-use farm::{FailedJob, Farm, FarmEnd, FarmFault, FarmStop};
+use farm::{Executor, FailedJob, Farm, FarmEnd, FarmFault, FarmStop, OpenGate};
 use farm_base::NodeId;
 use filekeeper::FileKeeper;
 use jobs::Answer;

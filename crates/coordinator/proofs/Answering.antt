@@ -5,7 +5,7 @@ use Rattle.protocol.specs.Machine.{FromCoord, ToCoord}
 use Rattle.events.specs.declared.answer.CoordNote.{CoordNote}
 use Rattle.events.specs.declared.answer.CoordRefusal.{CoordRefusal}
 use Rattle.protocol.specs.Ledger.{Work}
-use Rattle.saverecord.specs.Texts.{Texts}
+use Rattle.ledger.specs.Texts.{Texts}
 use Rattle.effects.specs.Held.{ledger}
 use Rattle.ledger.specs.Seen.{Seen}
 use Rattle.ledger.specs.Settling.{Answers}

@@ -1,3 +1,4 @@
+pub use Rattle.ledger.proofs.Records
 pub mod Answering
 pub mod Drafted
 pub mod Kept

@@ -3,14 +3,14 @@ use Rattle.std.specs.Prelude.{◌≡◌, Bool, true, false, Option, Some, None, 
 use Rattle.protocol.specs.Ledger.{Work, reads}
 use Rattle.events.specs.declared.answer.CoordRefusal.{CoordRefusal}
 use Rattle.events.specs.declared.answer.CoordRefusal.TheVariants.{Down, LoadFault, OutOfMemory}
-use Rattle.saverecord.specs.Logs.{saved_in}
-use Rattle.saverecord.specs.Texts.{Texts}
-use Rattle.saverecord.specs.declared.refusal.KeeperRefusal.{KeeperRefusal}
-use Rattle.saverecord.specs.declared.refusal.KeeperRefusal.TheVariants.{Fault}
+use Rattle.ledger.specs.Logs.{saved_in}
+use Rattle.ledger.specs.Texts.{Texts}
+use Rattle.ledger.specs.KeeperRefusal.{KeeperRefusal}
+use Rattle.ledger.specs.KeeperRefusal.TheVariants.{Fault}
 use Rattle.effects.specs.Held.{ledger}
 use Rattle.ledger.specs.Seen.{Seen}
-use Rattle.ledger.specs.Settling.{Answers}
-use Rattle.ledger.specs.declared.handled.Handled.{Handled}
+pub use Rattle.ledger.specs.Settling.{Answers, Does, Fails, SavesIf}
+pub use Rattle.ledger.specs.declared.handled.Handled.{Handled}
 
 -- a coordinator that is down does nothing
 abbrev pub SettlesWhile : {K : Type 0} → Bool → (K → Texts → Bool → K → Type 0) → Result Work CoordRefusal → Seen K

@@ -21,7 +21,7 @@ ghost use Rattle.ledger.specs.Seen.{IsKeeping};
 ghost use Rattle.coordinator.specs.Settling.{Settles, TakesUp, Restarts, Syncs};
 ghost use Rattle.ledger.specs.Settling.{Answers, Loads, OnlyGrow, is_save_fault};
 ghost use Rattle.effects.specs.Shown.{work_of};
-ghost use Rattle.saverecord.specs.Keepers.{HasFailed};
+ghost use Rattle.ledger.specs.Keepers.{HasFailed};
 
 use super::preparing::{
     prepare, prune_refusal, pruning, retirement, retirement_refusal, withdrawal, withdrawal_refusal,
@@ -31,8 +31,7 @@ use effects::Prepared;
 use events::{CoordNote, CoordRefusal, Kept};
 use farm_base::{Items, Lease, NodeId, NodeLife, Parked, Slot, Ticket, ToCoord};
 use leases::SlotState;
-use ledger::{Handled, Ledger, is_save_fault};
-use saverecord::{Keeper, MemoryKeeper, SaveFault};
+use ledger::{Handled, Keeper, Ledger, MemoryKeeper, SaveFault, is_save_fault};
 use std::alloc::{AllocError, Global};
 use std::marker::Model;
 use versions::Line;

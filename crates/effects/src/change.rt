@@ -1,6 +1,6 @@
 //! What one event changes of what the coordinator keeps beside the lines, and what is looked up with the changes so far.
 ghost use Rattle.std.specs.Prelude.{◌≡◌, None, IfOk};
-ghost use Rattle.leases.specs.Table.{is_free};
+ghost use Rattle.parked.specs.Table.{is_free};
 ghost use Rattle.effects.specs.Held.{ledger, line_at};
 ghost use Rattle.effects.specs.Keeps.{held, NotesSpent};
 ghost use Rattle.parked.specs.Spent.{IsNoted, AreNoted};
@@ -10,8 +10,7 @@ use super::new_life::NewLife;
 use super::state::State;
 use farm_base::{Copied, NodeId, Parked};
 use holdings::TicketSource;
-use leases::TableChange;
-use parked::{ParkedChange, SpentFolders};
+use parked::{ParkedChange, SpentFolders, TableChange};
 use std::alloc::{AllocError, Global};
 
 /// The changes of an event. What they are changes of is passed to each call that looks at it.

@@ -9,4 +9,5 @@ mod state;
 pub use change::Change;
 pub use effects::{Effects, Prepared};
 pub use new_life::NewLife;
+pub use parked::{ParkedAsks, SpentFolders};
 pub use state::State;

@@ -1,8 +1,7 @@
 //! What the coordinator keeps.
 use farm_base::NodeId;
 use holdings::{Lives, RetiredNodes, TicketSource};
-use leases::LeaseTable;
-use parked::{ParkedAsks, SpentFolders};
+use parked::{LeaseTable, ParkedAsks, SpentFolders};
 use versions::Lines;
 
 /// All that the coordinator keeps.

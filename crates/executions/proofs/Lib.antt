@@ -1,2 +1,3 @@
+pub use Rattle.farmboard.proofs.ReplayLemmas
 pub mod CallLemmas
 pub mod LiveLemmas

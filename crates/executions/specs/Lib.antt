@@ -1,3 +1,11 @@
+pub use Rattle.farmboard.specs.BoardRefusal
+pub use Rattle.farmboard.specs.Counts
+pub use Rattle.farmboard.specs.History
+pub use Rattle.farmboard.specs.Lines
+pub use Rattle.farmboard.specs.Replays
+pub use Rattle.farmboard.specs.Shown
+pub use Rattle.farmboard.specs.StartRefusal
+pub use Rattle.farmboard.specs.declared.tokens.Receipt
 pub mod TaskParts
 pub mod Calls
 pub mod Left

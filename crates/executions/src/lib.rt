@@ -13,6 +13,11 @@ mod task;
 
 pub use call::{Call, ExecOutcome};
 pub use executor::{Executor, Gate, OpenGate};
+pub use farmboard::{
+    Accept, Asked, Board, BoardRefusal, Ended, Finished, Granted, Receipt, Running, Settled,
+    StartRefusal, World, abandon_asked, abandon_finished, abandon_granted, abandon_running,
+    number_on,
+};
 pub use live_shared::LiveShared;
 pub use node_key::NodeKey;
 pub use refusal::SharedRefusal;

@@ -17,7 +17,7 @@ use Rattle.nodeasks.specs.contracts.ticket_index.TicketIndex as TicketIndex
 use Rattle.nodecore.specs.contracts.node_core.NodeCore as NodeCore
 use Rattle.saverecord.specs.contracts.keeper.MemoryKeeper as MemoryKeeper
 use Rattle.ledger.specs.contracts.ledger.Ledger as Ledger
-use Rattle.world.specs.contracts.world.World as World
+use Rattle.farmboard.specs.World as World
 use Rattle.farmboard.specs.contracts.board.Board as Board
 use Rattle.farmboard.specs.contracts.board.Board.TheInside as Inside
 use Rattle.jobs.specs.contracts.jobs.Jobs as Jobs

@@ -1,7 +1,7 @@
 -- Failures in a row that are too many (the rule is this project's own).
 use Rattle.std.specs.Prelude.{⊤, ℕ, nat_le, if◌then◌else◌}
-use Rattle.farmhistory.specs.declared.refusal.BoardRefusal.{BoardRefusal}
-use Rattle.farmhistory.specs.declared.refusal.BoardRefusal.TheVariants as board
+use Rattle.farmboard.specs.BoardRefusal.{BoardRefusal}
+use Rattle.farmboard.specs.BoardRefusal.TheVariants as board
 
 -- from the eighth failure in a row on there are too many
 abbrev pub ENOUGH : ℕ

@@ -1,2 +1,3 @@
+pub use Rattle.farmboard.specs.Replays
 pub mod Downs
 pub mod Ends

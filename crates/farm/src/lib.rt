@@ -23,6 +23,7 @@ mod worker_steps;
 
 pub use down::DownCount;
 pub use ends::{FarmEnd, FarmLeft, FarmStop};
+pub use executions::{Executor, Gate, OpenGate};
 pub use one::Farm;
 pub use solved::FailedJob;
 pub use solving::{FarmFault, OneEnd};

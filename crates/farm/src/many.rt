@@ -7,10 +7,10 @@ ghost use Rattle.executions.specs.Calls.{Grew};
 ghost use Rattle.farm.specs.Ends.{failed_in};
 ghost use Rattle.solving.specs.Faults.{is_bare};
 ghost use Rattle.solving.specs.Setups.{is_staffed};
-ghost use Rattle.reasons.specs.Answers.{AreAnswered, IsAnswered};
-ghost use Rattle.reasons.specs.NewCalls.{new_calls};
+ghost use Rattle.farmend.specs.Answers.{AreAnswered, IsAnswered};
+ghost use Rattle.farmend.specs.NewCalls.{new_calls};
 ghost use Rattle.farmend.specs.Receipts.{StandsOn, tickets_of};
-ghost use Rattle.farmhistory.specs.Replays.{commits_after, farm_after};
+ghost use Rattle.farmboard.specs.Replays.{commits_after, farm_after};
 ghost use Rattle.farmend.specs.Standing.{IsStanding};
 
 use super::ends::{FarmEnd, FarmLeft, FarmStop};

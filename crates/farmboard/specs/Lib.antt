@@ -1,3 +1,11 @@
+pub use Rattle.farmhistory.specs.Counts
+pub use Rattle.farmhistory.specs.History
+pub use Rattle.farmhistory.specs.Lines
+pub use Rattle.farmhistory.specs.Replays
+pub use Rattle.farmhistory.specs.Shown
+pub use Rattle.farmhistory.specs.StartRefusal
+pub use Rattle.farmhistory.specs.World
+pub use Rattle.farmhistory.specs.declared.refusal.BoardRefusal
 pub mod Begins
 pub mod Ends
 pub mod Faults

@@ -8,8 +8,8 @@ ghost use Rattle.events.specs.declared.answer.NodeNote.TheVariants as node_note;
 ghost use Rattle.farmboard.specs.Ends.{finished_of};
 ghost use Rattle.nodecore.specs.Shown as core;
 ghost use Rattle.nodeasks.specs.Rows.{none_lost};
-ghost use Rattle.world.specs.Setups.{IsSetup};
-ghost use Rattle.world.specs.Shown.{shown};
+ghost use Rattle.farmhistory.specs.Setups.{IsSetup};
+ghost use Rattle.farmhistory.specs.Shown.{shown};
 
 use super::carrying::{carry_out_copied, make_room};
 use super::fault::FarmStep;
@@ -19,14 +19,13 @@ use farm_base::{
     Ask, Copied, EVENTS, FolderName, Grant, Items, Left, Life, Mode, NodeId, Version, Want, Wants,
 };
 use farmhistory::{
-    BoardRefusal, Counts, InUse, answer, asked, count, first_versions, has_node, is_among, note,
-    pass,
+    BoardRefusal, Counts, InUse, StartRefusal, World, answer, asked, count, first_versions,
+    has_node, is_among, note, pass,
 };
 use nodecore::{AskState, NodeCore};
 use schedule::Setup;
 use std::alloc::{AllocError, Global};
 use std::marker::Model;
-use world::{StartRefusal, World};
 
 /// The world beside the schedule that led to it. Contracts see it as its history: its setup, its schedule, and the
 /// messages that it skipped.
@@ -60,7 +59,7 @@ impl Drop for Board {
 }
 
 impl Model for Board {
-    ghost use Rattle.world.specs.Shown.{shown};
+    ghost use Rattle.farmhistory.specs.Shown.{shown};
     ghost use Rattle.farmhistory.specs.History.{History};
     ghost use Rattle.farmhistory.specs.Boards.{IsBoard};
 

@@ -4,14 +4,13 @@ ghost use Rattle.std.specs.Vec.{vec_capacity};
 ghost use Rattle.names.specs.Contents.{content_digest};
 ghost use Rattle.protocol.specs.Farm.{farm_limits};
 ghost use Rattle.protocol.specs.Replay.{step};
-ghost use Rattle.world.specs.Shown.{shown};
+ghost use Rattle.farmhistory.specs.Shown.{shown};
 ghost use Rattle.farmhistory.specs.Counts.{leases_at};
 
 use events::{Event, EventRefusal, Outcome};
 use farm_base::{Copied, Lease};
-use farmhistory::{InUse, carry_out, leases_at};
+use farmhistory::{InUse, World, carry_out, leases_at};
 use std::alloc::{AllocError, Global};
-use world::World;
 
 /// An event that the world took or refused.
 #[derive(Drop)]

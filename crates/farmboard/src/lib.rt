@@ -10,7 +10,7 @@ mod settling;
 mod tokens;
 
 pub use board::Board;
-pub use farmhistory::BoardRefusal;
+pub use farmhistory::{BoardRefusal, StartRefusal, World, number_on};
 pub use fault::FarmStep;
 pub use tokens::{
     Accept, Asked, Ended, Finished, Granted, Look, Receipt, Running, Settled, abandon_asked,

@@ -1,14 +1,13 @@
 //! What became of executions that are over.
 ghost use Rattle.std.specs.Prelude.{◌≡◌, is_some, IfSome, map, option_copied};
-ghost use Rattle.world.specs.Shown.{shown};
+ghost use Rattle.farmhistory.specs.Shown.{shown};
 ghost use Rattle.farmhistory.specs.Lines.{numbered};
 
 use super::board::Board;
 use super::tokens::{Finished, Receipt, Settled, abandon_finished};
 use events::How;
 use farm_base::Items;
-use farmhistory::{all_stand, any_stands, is_live, number_all};
-use world::World;
+use farmhistory::{World, all_stand, any_stands, is_live, number_all};
 
 /// What is known of an execution that is over.
 #[derive(Clone, Copy)]

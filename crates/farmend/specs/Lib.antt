@@ -1,3 +1,4 @@
+pub use Rattle.reasons.specs.Answers
 pub mod NewCalls
 pub mod Receipts
 pub mod Standing

@@ -3,6 +3,7 @@ use Rattle.std.specs.Prelude.{⊤, ◌≡◌, List, [], ◌∷◌, ◌++◌}
 use Rattle.std.specs.Borrow.{Bor}
 use Rattle.names.specs.declared.number.NodeId.{NodeId}
 use Rattle.executions.specs.declared.call.Call.{Call}
+pub use Rattle.reasons.specs.NewCalls.{new_calls}
 
 -- of each executor, in order, its node, the calls that it had, those at the end, and its node with its new calls
 abbrev pub AreNew : List NodeId → List (List Call) → List (List Call) → List (NodeId × Bor (List Call)) → Type 0

@@ -1,8 +1,8 @@
 -- What receipts say of a farm's lines (this project's own).
 use Rattle.std.specs.Prelude.{◌≡◌, ◌≢◌, ℕ, List, [], map, All, Some}
 use Rattle.protocol.specs.Replay.{Farm}
-use Rattle.farmhistory.specs.Lines.{number_on}
-use Rattle.farmboard.specs.declared.tokens.Receipt.{Receipt}
+use Rattle.executions.specs.Lines.{number_on}
+use Rattle.executions.specs.Receipt.{Receipt}
 
 -- the receipt has a version, and each stands on its slot's line, with its number, under the receipt's ticket
 abbrev pub StandsOn : Farm → Receipt → Type 0

@@ -5,9 +5,9 @@ use Rattle.events.specs.declared.event.Event.{Event}
 use Rattle.saverecord.specs.Logs.{Holds}
 use Rattle.saverecord.specs.Texts.{whole_alone}
 use Rattle.schedule.specs.declared.setup.Setup.{Setup}
-use Rattle.farmboard.specs.declared.tokens.Receipt.{Receipt}
+use Rattle.executions.specs.Receipt.{Receipt}
 use Rattle.farmend.specs.Receipts.{StandsOn, tickets_of}
-use Rattle.farmhistory.specs.Replays.{farm_after, commits_after}
+use Rattle.executions.specs.Replays.{farm_after, commits_after}
 
 -- the replay of the setup and the events has the bytes as its record, and these commits; the receipts are on its lines,
 -- each under a ticket of its own, and at most as many as the commits: a commit has none if nobody saw its end

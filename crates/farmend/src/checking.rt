@@ -4,12 +4,12 @@ ghost use Rattle.std.specs.List.{AllZip, IsDistinct};
 ghost use Rattle.saverecord.specs.Logs.{Holds};
 ghost use Rattle.saverecord.specs.Texts.{whole_alone};
 ghost use Rattle.executions.specs.Calls.{Grew};
-ghost use Rattle.world.specs.Shown.{shown};
-ghost use Rattle.farmhistory.specs.History.{farm_of};
-ghost use Rattle.farmhistory.specs.Counts.{commits_of};
+ghost use Rattle.executions.specs.Shown.{shown};
+ghost use Rattle.executions.specs.History.{farm_of};
+ghost use Rattle.executions.specs.Counts.{commits_of};
 ghost use Rattle.reasons.specs.Answers.{AreAnswered};
 ghost use Rattle.farmend.specs.Receipts.{StandsOn, tickets_of};
-ghost use Rattle.farmhistory.specs.Replays.{farm_after, commits_after};
+ghost use Rattle.executions.specs.Replays.{farm_after, commits_after};
 ghost use Rattle.farmend.specs.Standing.{IsStanding};
 
 use super::end::{HandedBack, RunEnd, Standing};
@@ -17,16 +17,14 @@ use super::hired::Hired;
 use super::news::news_of;
 use super::receipts::{all_differ, all_stand};
 use super::refusal::EndRefusal;
-use executions::Call;
+use executions::{Board, Call, Receipt, World};
 use farm_base::NodeId;
-use farmboard::{Board, Receipt};
 use jobs::Answer;
 use reasons::are_answered;
 use saverecord::RecordRefusal;
 use schedule::Setup;
 use solverkeys::Keyed;
 use std::alloc::Global;
-use world::World;
 
 /// The record of a farm's coordinator, whole.
 fn saved_of(alloc: Global, world: &World) -> Result<Vec<u8>, EndRefusal>

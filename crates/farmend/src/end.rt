@@ -1,6 +1,6 @@
 //! What a run leaves.
 use events::Event;
-use farmboard::{Board, Receipt};
+use executions::{Board, Receipt};
 use jobs::Answer;
 
 /// What the threads of a run hand back, beside their executors.

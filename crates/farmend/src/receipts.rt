@@ -2,15 +2,13 @@
 ghost use Rattle.std.specs.Prelude.{◌≡◌, All, Some, IfOk, IsTrue, nat_eq};
 ghost use Rattle.std.specs.List.{IsDistinct};
 ghost use Rattle.std.specs.List.Sorted.{IsStrictlyIncreasing};
-ghost use Rattle.world.specs.Shown.{shown};
-ghost use Rattle.farmhistory.specs.Lines.{number_on};
+ghost use Rattle.executions.specs.Shown.{shown};
+ghost use Rattle.executions.specs.Lines.{number_on};
 ghost use Rattle.farmend.specs.Receipts.{StandsOn, tickets_of};
 
+use executions::{Receipt, World, number_on};
 use farm_base::{Ticket, Version};
-use farmboard::Receipt;
-use farmhistory::number_on;
 use std::alloc::{AllocError, Global};
-use world::World;
 
 /// Whether a version stands on its slot's line, with its number, under the ticket.
 fn stands(world: &World, ticket: Ticket, version: &Version) -> bool

@@ -1,3 +1,7 @@
+pub use Rattle.world.specs.Setups
+pub use Rattle.world.specs.Shown
+pub use Rattle.world.specs.contracts.world.World
+pub use Rattle.world.specs.declared.world.StartRefusal
 pub mod Boards
 pub mod Counts
 pub mod History

@@ -16,3 +16,4 @@ pub use lines::{all_stand, any_stands, first_versions, is_live, number_all, numb
 pub use passing::{is_among, pass};
 pub use refusal::BoardRefusal;
 pub use uses::{InUse, has_node, note};
+pub use world::{StartRefusal, World};

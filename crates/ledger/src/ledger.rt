@@ -17,7 +17,7 @@ ghost use Rattle.ledger.specs.Settling.{Answers, Loads, OnlyGrow, is_save_fault}
 ghost use Rattle.effects.specs.Shown.{work_of};
 ghost use Rattle.versions.specs.Lines.{lines_with, room_needed};
 ghost use Rattle.effects.specs.Sound.{IsRightful};
-ghost use Rattle.parked.specs.Queue.{HasRoomFor};
+ghost use Rattle.effects.specs.Queue.{HasRoomFor};
 ghost use Rattle.ledger.specs.Prepared.{IsPrepared};
 
 use super::handled::Handled;
@@ -25,11 +25,10 @@ use super::nodes::{begin, retire};
 use super::record::{entry_of, record_of, state_of};
 use super::table_room::{put_back, put_changed, take_table};
 use super::text::{Sizes, Text, save};
-use effects::{Change, Effects, Prepared, State};
+use effects::{Change, Effects, Prepared, SpentFolders, State};
 use events::CoordRefusal;
 use farm_base::Items;
 use leases::TableWithRoom;
-use parked::SpentFolders;
 use saverecord::laws::what_is_kept_is_a_record;
 use saverecord::{Keeper, KeeperRefusal, Record, RecordRefusal};
 use std::alloc::{AllocError, Global};

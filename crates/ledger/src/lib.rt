@@ -10,3 +10,4 @@ mod text;
 
 pub use handled::{Handled, is_save_fault};
 pub use ledger::Ledger;
+pub use saverecord::{Keeper, MemoryKeeper, SaveFault};

@@ -1,3 +1,5 @@
+pub use Rattle.leases.proofs.ChangeLemmas
+pub use Rattle.leases.proofs.LowestLaw
 pub mod NewestLemmas
 pub mod WaitingWords
 pub mod PassedWords

@@ -1,3 +1,7 @@
+pub use Rattle.leaseindex.specs.Endings
+pub use Rattle.leases.specs.Changes
+pub use Rattle.leases.specs.Leases
+pub use Rattle.leases.specs.Table
 pub mod Over
 pub mod Waiting
 pub mod Numbers

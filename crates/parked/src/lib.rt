@@ -10,6 +10,7 @@ mod parked_change;
 mod passing;
 mod spent_folders;
 
+pub use leases::{LeaseTable, TableChange};
 pub use over::{Over, first_over, split_over};
 pub use parked_asks::ParkedAsks;
 pub use parked_change::ParkedChange;

@@ -1,7 +1,7 @@
 //! Whether answers have their reasons.
 ghost use Rattle.std.specs.Prelude.{IfOk, IsTrue};
 ghost use Rattle.std.specs.List.{AllZip};
-ghost use Rattle.world.specs.Shown.{shown};
+ghost use Rattle.executions.specs.Shown.{shown};
 ghost use Rattle.reasons.specs.Answers.{IsAnswered};
 ghost use Rattle.reasons.specs.NewCalls.{on_node};
 ghost use Rattle.reasons.specs.Solved.{news_in};
@@ -9,12 +9,11 @@ ghost use Rattle.reasons.specs.Solved.{news_in};
 use super::calls::Book;
 use super::denials::was_denied;
 use super::solved::{Made, is_failing, is_solved};
-use executions::Call;
+use executions::{Call, World};
 use farm_base::NodeId;
 use jobs::Answer;
 use solverkeys::Keyed;
 use std::alloc::{AllocError, Global};
-use world::World;
 
 /// Whether a job's answer has its reason.
 fn is_answered(

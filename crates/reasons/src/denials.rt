@@ -1,10 +1,10 @@
 //! The Denied messages of a farm.
 ghost use Rattle.std.specs.Prelude.{IsTrue};
-ghost use Rattle.world.specs.Shown.{shown};
+ghost use Rattle.executions.specs.Shown.{shown};
 ghost use Rattle.reasons.specs.Answers.{IsDenial, WasDenied};
 
+use executions::World;
 use farm_base::{FromCoord, Message, NodeId, ToNode};
-use world::World;
 
 /// Whether a message denies an ask of the node.
 fn is_denial(message: &Message, node: NodeId) -> bool

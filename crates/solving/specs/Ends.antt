@@ -2,8 +2,8 @@
 use Rattle.std.specs.Prelude.{◌≡◌, ℕ, List}
 use Rattle.events.specs.declared.event.Event.{Event}
 use Rattle.schedule.specs.declared.setup.Setup.{Setup}
-use Rattle.farmhistory.specs.Counts.{counts_of}
-use Rattle.farmhistory.specs.Replays.{replayed}
+use Rattle.executions.specs.Counts.{counts_of}
+use Rattle.executions.specs.Replays.{replayed}
 
 -- no event is refused
 abbrev pub RefusesNone : Setup → List Event → Type 0

@@ -3,10 +3,10 @@ use Rattle.std.specs.Prelude.{Bool, true, false}
 use Rattle.names.specs.declared.digest.Key.{Key}
 use Rattle.events.specs.declared.answer.EventRefusal.{EventRefusal}
 use Rattle.events.specs.declared.answer.EventRefusal.TheVariants as event
-use Rattle.farmhistory.specs.declared.refusal.BoardRefusal.{BoardRefusal}
-use Rattle.farmhistory.specs.declared.refusal.BoardRefusal.TheVariants as board
-use Rattle.world.specs.declared.world.StartRefusal.{StartRefusal}
-use Rattle.world.specs.declared.world.StartRefusal.TheVariants as start
+use Rattle.executions.specs.BoardRefusal.{BoardRefusal}
+use Rattle.executions.specs.BoardRefusal.TheVariants as board
+use Rattle.executions.specs.StartRefusal.{StartRefusal}
+use Rattle.executions.specs.StartRefusal.TheVariants as start
 use Rattle.jobs.specs.declared.answer.JobsRefusal.{JobsRefusal}
 use Rattle.jobs.specs.declared.answer.JobsRefusal.TheVariants as jobs
 use Rattle.slotfolders.specs.declared.refusal.RunRefusal.{RunRefusal}

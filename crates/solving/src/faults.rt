@@ -4,11 +4,9 @@ ghost use Rattle.solving.specs.Faults.{of_board, of_start, of_jobs, of_run, of_e
 
 use super::fault::FarmFault;
 use events::EventRefusal;
-use executions::{RunRefusal, SharedRefusal};
+use executions::{BoardRefusal, RunRefusal, SharedRefusal, StartRefusal};
 use farm_base::Key;
-use farmboard::BoardRefusal;
 use jobs::JobsRefusal;
-use world::StartRefusal;
 
 /// What a refusal of the board ends a run with.
 pub fn board_fault(refusal: BoardRefusal) -> FarmFault

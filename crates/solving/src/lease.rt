@@ -1,6 +1,6 @@
 //! What comes of an ask.
+use executions::{Granted, Running};
 use farm_base::Why;
-use farmboard::{Granted, Running};
 
 /// What the coordinator replied to an ask.
 pub enum Reply {

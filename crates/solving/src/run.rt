@@ -11,11 +11,10 @@ use super::faults::{edits_fault, jobs_fault, shared_fault};
 use super::lease::Reply;
 use super::steps::{ask, begin, finish, give_up, start_tenure};
 use super::work::{Work, shared_folders};
-use executions::{Executor, LiveShared, OpenGate};
+use executions::{Board, Executor, Granted, LiveShared, OpenGate, Running, abandon_running};
 use farm_base::{
     Content, Copied, Digest, FolderName, Items, Key, Left, Mode, NodeId, Ticket, Want, Wants,
 };
-use farmboard::{Board, Granted, Running, abandon_running};
 use folders::{Edit, Folder};
 use jobs::{Fault, Jobs};
 use solverkeys::Keyed;

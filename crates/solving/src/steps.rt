@@ -7,11 +7,11 @@ ghost use Rattle.solving.specs.Leases.{IsReplyTo};
 use super::fault::FarmFault;
 use super::faults::board_fault;
 use super::lease::Reply;
-use farm_base::{Copied, EVENTS, FolderName, Left, Mode, NodeId, Wants};
-use farmboard::{
+use executions::{
     Accept, Asked, Board, Ended, Finished, Granted, Running, Settled, abandon_asked,
     abandon_finished, abandon_granted, abandon_running,
 };
+use farm_base::{Copied, EVENTS, FolderName, Left, Mode, NodeId, Wants};
 use std::alloc::Global;
 
 /// Delivers all messages, and what is sent by that. Each delivery is an event, so they are at most as many as a

@@ -14,12 +14,10 @@ use Rattle.events.specs.declared.answer.Outcome.{Outcome}
 use Rattle.saverecord.specs.Keepers.{Memory, saved_by, MemorySaves, MemoryLoads}
 use Rattle.saverecord.specs.Logs.{saved_in}
 use Rattle.saverecord.specs.Texts.{Texts}
-use Rattle.ledger.specs.declared.handled.Handled.{Handled}
+use Rattle.coordinator.specs.Settling.{Handled, Settles, SettlesWhile, Restarts, Answers, SavesIf, Does, Fails}
 use Rattle.coordinator.specs.Held.{ledger}
 use Rattle.coordinator.specs.Seen.{Seen}
-use Rattle.coordinator.specs.Settling.{Settles, SettlesWhile, Restarts}
-use Rattle.ledger.specs.Settling.{Answers, SavesIf, Does, Fails}
-use Rattle.ledger.proofs.Records.{held_in}
+use Rattle.coordinator.proofs.Records.{held_in}
 use Rattle.world.specs.Turns.{Came, first_number, from_coordinator}
 use Rattle.world.specs.Parts.{with_coordinator}
 use Rattle.world.proofs.TurnLemmas.{worked_as}

@@ -4,7 +4,7 @@ use Rattle.executions.specs.declared.call.Call.{Call}
 use Rattle.names.specs.declared.number.NodeId.{NodeId}
 use Rattle.jobs.specs.declared.answer.Answer.{Answer}
 use Rattle.solverkeys.specs.Keyed.{KeyedParts}
-use Rattle.world.specs.Shown.{shown}
+use Rattle.executions.specs.Shown.{shown}
 use Rattle.reasons.specs.Answers.{IsAnswered}
 use Rattle.reasons.specs.NewCalls.{on_node}
 use Rattle.farmend.specs.declared.hired.Hired.{Hired}

@@ -5,7 +5,7 @@ use Rattle.saverecord.specs.Logs.{Holds}
 use Rattle.vertices.proofs.ZipLemmas.{all_zip_length}
 use Rattle.farmend.specs.Receipts.{StandsOn}
 use Rattle.farmend.proofs.AnswerLemmas.{answers_same, none_waits}
-use Rattle.farmhistory.proofs.ReplayLemmas.{farm_same, commits_same}
+use Rattle.executions.proofs.ReplayLemmas.{farm_same, commits_same}
 use Rattle.farmend.proofs.checking.check.Goals as goal
 
 pub returns-clause-saved : goal.returns-clause-saved

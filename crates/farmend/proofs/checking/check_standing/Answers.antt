@@ -1,14 +1,14 @@
 use Rattle.std.proofs.Common.{◌≡◌, ◌≤◌, List, All, length, sym, ◌∙◌, subst}
 use Rattle.std.specs.List.{IsDistinct}
 use Rattle.std.specs.Prelude.{nat_eq}
-use Rattle.farmhistory.specs.Counts.{commits_of}
-use Rattle.farmhistory.specs.History.{farm_of}
-use Rattle.farmboard.specs.declared.tokens.Receipt.{Receipt}
+use Rattle.executions.specs.Counts.{commits_of}
+use Rattle.executions.specs.History.{farm_of}
+use Rattle.executions.specs.Receipt.{Receipt}
 use Rattle.protocol.specs.Replay.{Farm}
 use Rattle.saverecord.specs.Texts.{whole_alone}
 use Rattle.saverecord.specs.Logs.{Holds}
 use Rattle.farmend.specs.Receipts.{StandsOn, tickets_of}
-use Rattle.farmhistory.proofs.ReplayLemmas.{farm_same, commits_same}
+use Rattle.executions.proofs.ReplayLemmas.{farm_same, commits_same}
 use Rattle.farmend.proofs.checking.check_standing.Goals as goal
 
 pub returns-clause-stands : goal.returns-clause-stands

@@ -2,8 +2,8 @@ use Rattle.std.proofs.Common.{◌≡◌, ap, ◌∙◌}
 use Rattle.holdings.specs.Leases.{among}
 use Rattle.holdings.specs.Lives.{life_at, is_among}
 use Rattle.leases.specs.Changes.{changed}
-use Rattle.parked.specs.Queue.{asks_of}
-use Rattle.parked.specs.Waiting.{waits_after}
+use Rattle.effects.specs.Queue.{asks_of}
+use Rattle.effects.specs.Waiting.{waits_after}
 use Rattle.effects.specs.declared.effects.Effects.{Effects}
 use Rattle.effects.specs.Held.{Held, line_at}
 use Rattle.effects.specs.Keeps.{held}

@@ -4,7 +4,7 @@ use Rattle.jobs.specs.declared.answer.Answer.{Answer}
 use Rattle.jobs.specs.declared.answer.Answer.TheVariants.{Waiting}
 use Rattle.solverkeys.specs.Keyed.{KeyedParts}
 use Rattle.names.specs.declared.number.NodeId.{NodeId}
-use Rattle.world.specs.Shown.{shown}
+use Rattle.executions.specs.Shown.{shown}
 use Rattle.reasons.specs.Answers.{IsAnswered}
 use Rattle.reasons.specs.NewCalls.{on_node}
 use Rattle.reasons.proofs.AnswerLemmas.{zip_at}

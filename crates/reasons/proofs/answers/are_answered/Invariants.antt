@@ -1,6 +1,6 @@
 use Rattle.std.proofs.Common.{take}
 use Rattle.std.specs.List.{AllZip}
-use Rattle.world.specs.Shown.{shown}
+use Rattle.executions.specs.Shown.{shown}
 use Rattle.reasons.specs.Answers.{IsAnswered}
 use Rattle.reasons.specs.NewCalls.{on_node}
 use Rattle.reasons.proofs.answers.are_answered.Given as goal

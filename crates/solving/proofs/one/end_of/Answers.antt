@@ -1,10 +1,9 @@
 use Rattle.std.proofs.Common.{◌≡◌, ◌∙◌, List, sym, ap}
 use Rattle.events.specs.declared.event.Event.{Event}
 use Rattle.schedule.specs.declared.setup.Setup.{Setup}
-use Rattle.farmhistory.specs.Counts.{counts_of}
-use Rattle.farmhistory.specs.declared.counts.Counts.{Counts}
-use Rattle.farmhistory.specs.Replays.{replayed}
-use Rattle.farmhistory.proofs.ReplayLemmas.{counts_of-replayed}
+use Rattle.executions.specs.Counts.{counts_of}
+use Rattle.executions.specs.Replays.{replayed}
+use Rattle.executions.proofs.ReplayLemmas.{counts_of-replayed}
 use Rattle.solving.proofs.one.end_of.Goals as goal
 
 pub returns-clause-replay : goal.returns-clause-replay
@@ -13,7 +12,7 @@ returns-clause-replay c =
     let same : c.args.board.setup ≡ c.args.setup = λ j. record { nodes = nodes j } in
     let told = ap (λ (events : List Event). counts_of (replayed c.args.setup events)) c.into_parts-schedule.ensures.schedule
     ∙ ap (λ (setup : Setup). counts_of (replayed setup c.args.board.events)) (sym same) ∙ counts_of-replayed c.args.board ∙ sym c.counts-counts.ensures.value in
-    ap (λ (counts : Counts). counts.refused) told ∙ search
+    (λ j. (told j).refused) ∙ search
 
 pub returns-clause-commits : goal.returns-clause-commits
 returns-clause-commits c =
@@ -21,4 +20,4 @@ returns-clause-commits c =
     let same : c.args.board.setup ≡ c.args.setup = λ j. record { nodes = nodes j } in
     let told = ap (λ (events : List Event). counts_of (replayed c.args.setup events)) c.into_parts-schedule.ensures.schedule
     ∙ ap (λ (setup : Setup). counts_of (replayed setup c.args.board.events)) (sym same) ∙ counts_of-replayed c.args.board ∙ sym c.counts-counts.ensures.value in
-    sym (ap (λ (counts : Counts). counts.committed) told)
+    λ j. (sym told j).committed

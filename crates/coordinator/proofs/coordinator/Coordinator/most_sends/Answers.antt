@@ -3,7 +3,7 @@ use Rattle.protocol.specs.Machine.{Parked}
 use Rattle.protocol.specs.Farm.{farm_limits}
 use Rattle.effects.specs.Held.{Held, ledger}
 use Rattle.drafts.proofs.Sends.{handled_few}
-use Rattle.parked.specs.Queue.{asks_of}
+use Rattle.effects.specs.Queue.{asks_of}
 use Rattle.ledger.specs.Seen.{Seen}
 use Rattle.coordinator.proofs.coordinator.Coordinator.most_sends.Goals as goal
 

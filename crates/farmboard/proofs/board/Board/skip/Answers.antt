@@ -1,5 +1,5 @@
 use Rattle.std.proofs.Common.{◌++◌, ◌∷◌, [], List, ℕ, ap, ◌∙◌, subst, sym}
-use Rattle.world.specs.Shown.{shown}
+use Rattle.farmhistory.specs.Shown.{shown}
 use Rattle.farmhistory.specs.History.{History, IsNext}
 use Rattle.farmhistory.proofs.HistoryLemmas.{skipped_more}
 use Rattle.farmboard.proofs.board.Board.skip.Goals as goal

@@ -1,4 +1,4 @@
-use Rattle.world.specs.Shown.{shown}
+use Rattle.farmhistory.specs.Shown.{shown}
 use Rattle.farmhistory.proofs.HistoryLemmas.{board_starts}
 use Rattle.farmboard.proofs.board.Board.start.Goals as goal
 

@@ -1,7 +1,7 @@
 use Rattle.std.proofs.Common.{◌≡◌, ◌<◌, List, ℕ, length, ap, subst, ◌∙◌, arith}
 use Rattle.names.specs.declared.limits.TheConstants.{EVENTS}
 use Rattle.protocol.specs.Ledger.{Lease}
-use Rattle.world.specs.Shown.{shown}
+use Rattle.farmhistory.specs.Shown.{shown}
 use Rattle.farmhistory.specs.declared.uses.InUse.{InUse}
 use Rattle.farmhistory.specs.Boards.{PassesTo}
 use Rattle.farmhistory.specs.Counts.{counted}

@@ -6,14 +6,14 @@ use Rattle.events.specs.declared.answer.CoordRefusal.TheVariants.{SaveFault, Out
 use Rattle.saverecord.specs.Logs.{Holds}
 use Rattle.effects.specs.declared.state.State.{State}
 use Rattle.effects.specs.declared.effects.Effects.{Effects}
-use Rattle.parked.specs.declared.spent_folders.SpentFolders.{SpentFolders}
+use Rattle.effects.specs.SpentFolders.{SpentFolders}
 use Rattle.effects.specs.Held.{Held, line_at, ledger}
 use Rattle.effects.specs.Keeps.{held, IsKeepable}
 use Rattle.ledger.specs.Seen.{IsKeeping}
 use Rattle.ledger.specs.Settling.{Answers, OnlyGrow, is_save_fault}
 use Rattle.effects.specs.Shown.{LineOf, after, work_of, lines_with}
 use Rattle.effects.specs.Sound.{IsRightful}
-use Rattle.parked.specs.Spent.{AreNoted}
+use Rattle.effects.specs.Spent.{AreNoted}
 use Rattle.ledger.proofs.Growing.{grows, stays}
 use Rattle.ledger.proofs.Keeping.{holds_after, saved_ok, saved_not}
 use Rattle.ledger.proofs.ledger.Ledger.settle.Goals as goal
