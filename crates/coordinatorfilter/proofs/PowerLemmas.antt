@@ -1,12 +1,12 @@
 -- What a power failure amid a batch leaves: what the coordinator had decided of the first of its lines.
-use Rattle.std.proofs.Common.{◌≡◌, ◌⊎◌, ℕ, ◌+◌, Bool, true, false, List, [], ◌∷◌, ◌++◌, Option, Some, None, Result, Ok, Err, length, inl, inr, refl, sym, ap, ◌∙◌, subst, length-append, arith}
+use Rattle.std.proofs.Common.{◌≡◌, ◌⊎◌, ℕ, Bool, true, false, List, [], ◌∷◌, Option, Some, None, Result, Ok, Err, inl, inr, refl, sym, ap, ◌∙◌, subst}
 use Rattle.std.specs.Prelude.{⊤}
-use Rattle.std.proofs.lemmas.List.{append-nil}
 use Rattle.coordinator.specs.Held.{ledger}
 use Rattle.coordinator.specs.Seen.{Seen}
 use Rattle.coordinator.specs.Settling.{SettlesWhile, Restarts}
 use Rattle.events.specs.declared.answer.CoordRefusal.{CoordRefusal}
 use Rattle.events.specs.declared.answer.CoordRefusal.TheVariants.{Down, SaveFault, BadRecord, NotLive, SlotLeased, NoSuchSlot, TicketsSpent, OutOfMemory, LoadFault, Tenure, TenureHeld, NodeRetired}
+use Rattle.filekeeper.proofs.LeftLemmas.{all_left, left_before}
 use Rattle.filekeeper.specs.Keepers.{FileLoads, FileSyncs, IsLeft, file_texts}
 use Rattle.ledger.specs.Settling.{SavesIf, Answers, is_save_fault}
 use Rattle.ledger.specs.declared.handled.Handled.{Handled}
@@ -14,11 +14,11 @@ use Rattle.protocol.specs.Farm.{farm_limits}
 use Rattle.protocol.specs.Ledger.{Work, Saved, saves}
 use Rattle.protocol.specs.Lists.{In}
 use Rattle.protocol.specs.Processes as process
-use Rattle.protocol.specs.Processes.{Processes, decided}
+use Rattle.protocol.specs.Processes.{decided}
 use Rattle.protocol.specs.Processes.CoordinatorDoes.{Is_killed}
 use Rattle.saverecord.specs.declared.refusal.KeeperRefusal.{KeeperRefusal}
 use Rattle.saverecord.specs.declared.refusal.KeeperRefusal.TheVariants.{Fault}
-use Rattle.saverecord.specs.Texts.{Texts, with_text, with_texts}
+use Rattle.saverecord.specs.Texts.{Texts}
 use Rattle.services.specs.declared.lost.Lost.{Lost}
 use Rattle.services.specs.Served as served
 use Rattle.coordinatorlines.specs.Calls.{called}
@@ -26,64 +26,8 @@ use Rattle.coordinatorfilter.specs.declared.reply.Reply.{Reply}
 use Rattle.coordinatorfilter.specs.Carried.{Saving, Loading, Syncing, RestartsIf, CarriesOut}
 use Rattle.coordinatorfilter.specs.Written.{Filters}
 use Rattle.coordinatorfilter.specs.Written.Filters.{Calls, Stops, Shows, Drops}
-use Rattle.coordinatorfilter.specs.Rules.{AddsEntry, IsHonest, file_saves, process_of, gone_with, filter_steps, APowerFailureIsARun, APowerFailureOverFilesIsARun}
+use Rattle.coordinatorfilter.specs.Rules.{IsHonest, file_saves, process_of, gone_with, filter_steps, APowerFailureIsARun, APowerFailureOverFilesIsARun}
 use Rattle.coordinatorfilter.proofs.RuleLemmas.{are_heard, loads_keep, rests, same_process, does_silently, lines_come, gathered_file}
-
--- ---- texts
-
--- the last of some entries and one more is that one, or there is none
-last_of : (xs ys rest : List (List ℕ)) (e : List ℕ) → xs ++ e ∷ [] ≡ ys ++ rest → (rest ≡ []) ⊎ ((more : List (List ℕ)) × (xs ≡ ys ++ more))
-last_of xs [] rest e h = inr (xs, refl)
-last_of [] (y ∷ ys) rest e h = inl (none_after ys rest (tail_is (y ∷ ys ++ rest) e h))
-  where
-    tail_of : List (List ℕ) → List (List ℕ)
-    tail_of [] = []
-    tail_of (x ∷ xs) = xs
-
-    tail_is : (zs : List (List ℕ)) (e : List ℕ) → e ∷ [] ≡ zs → tail_of zs ≡ []
-    tail_is zs e h = ap tail_of (sym h)
-
-    none_after : (ys rest : List (List ℕ)) → ys ++ rest ≡ [] → rest ≡ []
-    none_after [] rest h = h
-    none_after (y ∷ ys) rest h = (let bad : y ∷ (ys ++ rest) ≡ [] = h in absurd (cc bad))
-last_of (x ∷ xs) (y ∷ ys) rest e h =
-    elim (last_of xs ys rest e (cc h)) [
-      | inl none ↦ inl none
-      | inr more ↦ inr (more.0, (let same : x ≡ y = cc h in ap (λ z. z ∷ xs) same ∙ ap (λ zs. y ∷ zs) more.1))
-    ]
-
-none_left : (xs first rest : List (List ℕ)) → xs ≡ (xs ++ first) ++ rest → rest ≡ []
-none_left xs first [] h = refl
-none_left xs first (r ∷ rest) h =
-    let len : length xs ≡ length xs + length first + length (r ∷ rest) = ap length h ∙ length-append (xs ++ first) (r ∷ rest) ∙ ap (λ n. n + length (r ∷ rest)) (length-append xs first) in
-    absurd (omega (arith, len))
-
--- with no more entries these are the texts
-nothing_more : (kept left : Texts) (rest : List (List ℕ)) → kept ≡ with_texts rest left → rest ≡ [] → left ≡ kept
-nothing_more kept left rest h none =
-    sym (h ∙ ap (λ more. with_texts more left) none ∙ ap (λ (entries : List (List ℕ)). record left { entries = entries }) (append-nil left.entries))
-
--- where all that is kept lasts, a crash leaves that
-all_left : (lasting kept left : Texts) → lasting ≡ kept → IsLeft lasting kept left → left ≡ kept
-all_left lasting kept left all h =
-    let entries : kept.entries ≡ (kept.entries ++ h.first) ++ h.rest =
-    ap (λ (t : Texts). t.entries) h.kept_is ∙ ap (λ (t : Texts). t.entries ++ h.rest) h.left_is ∙ ap (λ (t : Texts). (t.entries ++ h.first) ++ h.rest) all in
-    nothing_more kept left h.rest h.kept_is (none_left kept.entries h.first h.rest entries)
-
--- where an entry more was gathered, a crash leaves that too, or what it left before
-left_before : (old_kept old_lasting new_kept new_lasting left : Texts) → AddsEntry old_kept old_lasting new_kept new_lasting → IsLeft new_lasting new_kept left
-    → (left ≡ new_kept) ⊎ IsLeft old_lasting old_kept left
-left_before old_kept old_lasting new_kept new_lasting left adds h =
-    let same : with_text adds.entry old_kept ≡ with_texts h.rest left = sym adds.kept ∙ h.kept_is in
-    elim (last_of old_kept.entries left.entries h.rest adds.entry (ap (λ (t : Texts). t.entries) same)) [
-      | inl none ↦ inl (nothing_more new_kept left h.rest h.kept_is none)
-      | inr more ↦ inr (record {
-        first = h.first;
-        rest = more.0;
-        left_is = h.left_is ∙ ap (λ (t : Texts). with_texts h.first t) adds.lasts;
-        kept_is = λ i. record { whole = (ap (λ (t : Texts). t.whole) same) i; entries = more.1 i };
-      })
-    ]
 
 -- ---- a line
 
@@ -114,7 +58,7 @@ module _ {K : Type 0} (saving : Saving K) (loading : Loading K) (syncing : Synci
       ]
 
   -- a restart loads, if it is due, and changes no texts
-  restart_loads : (texts : Texts) (old new : Seen K) (result : Result ⊤ CoordRefusal) → Restarts loading texts old new result
+  pub restart_loads : (texts : Texts) (old new : Seen K) (result : Result ⊤ CoordRefusal) → Restarts loading texts old new result
       → (refusal : Option KeeperRefusal) × loading old.keeper refusal new.keeper
   restart_loads texts old new (Ok done) r = (None, r.loaded)
   restart_loads texts old new (Err LoadFault) r = (Some Fault, r.0)
@@ -153,7 +97,7 @@ module _ {K : Type 0} (saving : Saving K) (loading : Loading K) (syncing : Synci
       let is = (honest.saves old saved.texts new saved.left).0 in
       elim (honest.saves old saved.texts new saved.left).1 [
         | inl lasts ↦ lasting_left old new saved.texts left is lasts h
-        | inr adds ↦ elim (left_before (kept old) (lasting old) saved.texts (lasting new) left adds (subst (λ t. IsLeft (lasting new) t left) is h)) [
+        | inr adds ↦ elim (left_before (kept old) (lasting old) saved.texts (lasting new) left adds.entry adds.kept adds.lasts (subst (λ t. IsLeft (lasting new) t left) is h)) [
           | inl now ↦ inl (now ∙ sym is)
           | inr before ↦ inr (inr before)
         ]

@@ -154,7 +154,7 @@ module _ {K : Type 0} (saving : Saving K) (loading : Loading K) (syncing : Synci
   none_of : (result : Result Handled CoordRefusal) (e : CoordRefusal) (said : List Message) → result ≡ Err e → AreSaid result said → said ≡ []
   none_of result e said is h = subst (λ r. AreSaid r said) is h
 
-  one_call : (written : List Message) (call : process.Call) → MayCome NODES written call → AllMayCome NODES written (call ∷ [])
+  pub one_call : (written : List Message) (call : process.Call) → MayCome NODES written call → AllMayCome NODES written (call ∷ [])
   one_call written call may c (inl e) = subst (MayCome NODES written) (sym e) may
   one_call written call may c (inr none) = absurd none
 
@@ -258,11 +258,11 @@ module _ {K : Type 0} (saving : Saving K) (loading : Loading K) (syncing : Synci
   quiet false sha p c messages h = silently sha p c messages [] refl h
 
   -- what is handed on is the line
-  line_given : (limit : ℕ) (key line : List ℕ) (given : Result (List ℕ) Lost) (o : Order) → IsKept limit line given → AsksFor key given o → Orders key line o
+  pub line_given : (limit : ℕ) (key line : List ℕ) (given : Result (List ℕ) Lost) (o : Order) → IsKept limit line given → AsksFor key given o → Orders key line o
   line_given limit key line (Ok text) o kept asks = subst (λ t. Orders key t o) kept.1 asks
   line_given limit key line (Err lost) o kept asks = absurd asks
 
-  may_come : (key line : List ℕ) (written : List Message) (call : Call) → ((message : ToCoord) → Asks key line (Handle message) → In (Said message) written) → Asks key line call → MayCome NODES written (called call)
+  pub may_come : (key line : List ℕ) (written : List Message) (call : Call) → ((message : ToCoord) → Asks key line (Handle message) → In (Said message) written) → Asks key line call → MayCome NODES written (called call)
   may_come key line written (Handle message) heard asks = heard message asks
   may_come key line written (Withdraw ticket) heard asks = tt
   may_come key line written (Prune slot) heard asks = tt
@@ -270,7 +270,7 @@ module _ {K : Type 0} (saving : Saving K) (loading : Loading K) (syncing : Synci
   may_come key line written (Retire node) heard (Heard sealed is none) = absurd none
   may_come key line written (Retire node) heard (Own utf own) = own.1
 
-  line_comes : (sha : List ℕ → Digest) (key : List ℕ) (limit : ℕ) (p : Processes) (messages : List Message) (lost : Bool) (line : List ℕ) (given : Result (List ℕ) Lost) (answer : List ℕ) (old new : Seen K)
+  pub line_comes : (sha : List ℕ → Digest) (key : List ℕ) (limit : ℕ) (p : Processes) (messages : List Message) (lost : Bool) (line : List ℕ) (given : Result (List ℕ) Lost) (answer : List ℕ) (old new : Seen K)
       → ((message : ToCoord) → Asks key line (Handle message) → In (Said message) p.written) → IsKept limit line given
       → (f : Filters saving loading kept key given answer old new) → Comes sha p (process_of kept old) messages → Comes sha p (process_of kept new) (messages ++ said_of lost (line_messages f))
   line_comes sha key limit p messages lost line given answer old new heard is (Calls call reply asks done (inl written)) h =
@@ -339,20 +339,20 @@ module _ {K : Type 0} (saving : Saving K) (loading : Loading K) (syncing : Synci
   restart_lasts old new (Err TenureHeld) down r up = absurd r
   restart_lasts old new (Err NodeRetired) down r up = absurd r
 
-  made : (sha : List ℕ → Digest) (key : List ℕ) (limit : ℕ) (lines answers : List (List ℕ)) (settled : Settled) (old mid new : Seen K) (p : Processes)
-      → p.coordinator ≡ process_of kept old → AreHeard p.written key lines → (h : served.Answers (filter_steps saving loading kept key) limit old lines answers mid)
+  pub made : (sha : List ℕ → Digest) (key : List ℕ) (limit : ℕ) (lines answers : List (List ℕ)) (settled : Settled) (old mid new : Seen K) (p : Processes)
+      → Comes sha p (process_of kept old) [] → AreHeard p.written key lines → (h : served.Answers (filter_steps saving loading kept key) limit old lines answers mid)
       → Settles syncing loading kept lasting mid settled new →
       let messages : List Message = settled_messages settled (messages_of saving loading kept key limit old mid lines answers h) in
       Comes sha p (process_of kept new) messages × LastsWhileUp kept new lasting × Says key messages (settled_text settled answers)
-  made sha key limit lines answers Lasts old mid new p same heard h s = (
+  made sha key limit lines answers Lasts old mid new p comes heard h s = (
     same_process sha p _ _ (messages_of saving loading kept key limit old mid lines answers h) (process_is mid new s.0.1 s.0.2 (honest.syncs mid.keeper true new.keeper s.0.0))
-        (lines_come sha key limit p [] false lines answers old mid heard h (rests sha p (process_of kept old) same)),
+        (lines_come sha key limit p [] false lines answers old mid heard h comes),
     λ up. s.1,
     lines_say key limit lines answers old mid h,
   )
-  made sha key limit lines answers (Failed restart) old mid new p same heard h s =
+  made sha key limit lines answers (Failed restart) old mid new p comes heard h s =
       let failed = s.0 in
-      let silent : Comes sha p (process_of kept mid) [] = lines_come sha key limit p [] true lines answers old mid heard h (rests sha p (process_of kept old) same) in
+      let silent : Comes sha p (process_of kept mid) [] = lines_come sha key limit p [] true lines answers old mid heard h comes in
       let killed = does_silently sha p (process_of kept mid) (record (process_of kept mid) { memory = None }) [] silent Is_killed in
       let is_failed = same_process sha p _ (process_of kept failed) []
       (λ i. record { memory = (ap (λ b. memory_of b (ledger failed.held)) (sym s.1.2)) i; disk = saved_in (sym (honest.syncs mid.keeper false failed.keeper s.1.0) i) }) killed in (
@@ -363,7 +363,7 @@ module _ {K : Type 0} (saving : Saving K) (loading : Loading K) (syncing : Synci
 
   pub a_batch_is_a_run : ABatchIsARun saving loading syncing kept lasting
   a_batch_is_a_run sha key limit lines text old new p same heard b =
-      let done = made sha key limit lines b.answers b.settled old b.answered_to new p same (are_heard key lines p.written heard) b.answered b.made in
+      let done = made sha key limit lines b.answers b.settled old b.answered_to new p (rests sha p (process_of kept old) same) (are_heard key lines p.written heard) b.answered b.made in
       (done.0, done.1, subst (Says key (batch_messages saving loading syncing kept lasting key limit lines text old new b)) (sym b.text_is) done.2)
 
   pub a_kill_is_a_run : AKillIsARun saving loading kept
@@ -386,7 +386,7 @@ module _ {K : Type 0} (saving : Saving K) (loading : Loading K) (syncing : Synci
 -- ---- keepers in files
 
 -- all texts last
-last_all : (f : Filed) → file_texts (lasts f) ≡ f.texts
+pub last_all : (f : Filed) → file_texts (lasts f) ≡ f.texts
 last_all f = ap (λ (entries : List (List ℕ)). record f.texts { entries = entries }) (take-length f.texts.entries)
 
 pub gathered_file : IsHonest file_saves FileLoads FileSyncs (λ f. f.texts) file_texts
@@ -401,29 +401,30 @@ gathered_file = record { saves = saves_so; fails = fails_so; loaded = loaded_so;
     saves_so : (old : Filed) (texts : Texts) (new : Filed) → file_saves old texts true new
         → (new.texts ≡ texts) × ((file_texts new ≡ texts) ⊎ AddsEntry old.texts (file_texts old) texts (file_texts new))
     saves_so old texts new (inl g) = (ap (λ f. f.texts) g.1.left.0, inr (record { entry = g.1.entry; kept = g.1.texts_are; lasts = g.1.left.1 }))
-    saves_so old texts new (inr s) = (let both = all_last (record old { texts = texts }) new new.calls true s.1 in (both.0, inl both.1))
+    saves_so old texts new (inr s) = (let both = all_last (record old { texts = texts }) new new.calls true s.changed.1 in (both.0, inl both.1))
 
     fails_so : (old : Filed) (texts : Texts) (new : Filed) → file_saves old texts false new
         → ((new.texts ≡ old.texts) × (file_texts new ≡ file_texts old)) ⊎ ((new.texts ≡ texts) × (file_texts new ≡ texts))
     fails_so old texts new (inl g) = (let bad : false ≡ true = g.0 in absurd (cc bad))
-    fails_so old texts new (inr (inl (inl same))) = inl (ap (λ f. f.texts) same, ap file_texts same)
-    fails_so old texts new (inr (inl (inr called))) = inl (ap (λ f. f.texts) called.1, ap file_texts called.1)
-    fails_so old texts new (inr (inr called)) = inr (all_fail (record old { texts = texts }) new new.calls new.settled called.1)
+    fails_so old texts new (inr s) =
+        elim s.changed [
+          | inl may ↦ inl (elim may [ inl same ↦ (ap (λ (f : Filed). f.texts) same, ap file_texts same) | inr called ↦ (ap (λ (f : Filed). f.texts) called.1, ap file_texts called.1) ])
+          | inr called ↦ inr (all_fail (record old { texts = texts }) new new.calls new.settled called.1)
+        ]
 
     loaded_so : (old new : Filed) → FileLoads old None new → (new.texts ≡ old.texts) × (file_texts new ≡ old.texts)
-    loaded_so old new h = all_last old new new.calls true h
+    loaded_so old new h = all_last old new new.calls true h.changed
 
     loads_so : (old : Filed) (refusal : Option KeeperRefusal) (new : Filed) → FileLoads old refusal new
         → ((new.texts ≡ old.texts) × (file_texts new ≡ file_texts old)) ⊎ ((new.texts ≡ old.texts) × (file_texts new ≡ old.texts))
-    loads_so old None new h = inr (all_last old new new.calls true h)
-    loads_so old (Some keeper.OutOfMemory) new h = inr (all_last old new new.calls new.settled h)
-    loads_so old (Some keeper.Fault) new (inl h) = inl (ap (λ f. f.texts) h, ap file_texts h)
-    loads_so old (Some keeper.Fault) new (inr h) = inr (all_fail old new new.calls new.settled h)
+    loads_so old None new h = inr (all_last old new new.calls true h.changed)
+    loads_so old (Some keeper.OutOfMemory) new h = inr (all_last old new new.calls new.settled h.changed)
+    loads_so old (Some keeper.Fault) new h =
+        elim h.changed [ inl still ↦ inl (ap (λ (f : Filed). f.texts) still, ap file_texts still) | inr all ↦ inr (all_fail old new new.calls new.settled all) ]
 
     syncs_so : (old : Filed) (ok : Bool) (new : Filed) → FileSyncs old ok new → new.texts ≡ old.texts
-    syncs_so old true new h = ap (λ f. f.texts) h.1
-    syncs_so old false new (inl same) = ap (λ f. f.texts) same
-    syncs_so old false new (inr called) = ap (λ f. f.texts) called.1
+    syncs_so old true new h = ap (λ (f : Filed). f.texts) h.changed.1
+    syncs_so old false new h = elim h.changed [ inl same ↦ ap (λ (f : Filed). f.texts) same | inr called ↦ ap (λ (f : Filed). f.texts) called.1 ]
 
 pub over_files : ABatchOverFilesIsARun
 over_files = a_batch_is_a_run file_saves FileLoads FileSyncs (λ f. f.texts) file_texts gathered_file

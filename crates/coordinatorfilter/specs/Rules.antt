@@ -1,6 +1,6 @@
 -- A coordinator's filter is the coordinator of protocol's processes: what it does with lines is what the rules let that
 -- do.
-use Rattle.std.specs.Prelude.{◌≡◌, ◌⊎◌, ℕ, Bool, true, false, List, [], ◌∷◌, ◌++◌, map, Option, Some, None, Result, Ok, Err}
+use Rattle.std.specs.Prelude.{◌≡◌, ◌⊎◌, ℕ, Bool, true, false, List, [], ◌∷◌, ◌++◌, map, Option, Some, None, Result, Ok, Err, ⊤}
 use mathlib.Core.Logic.{inl, inr}
 use Rattle.ledger.specs.declared.handled.Handled.{Handled}
 use Rattle.coordinator.specs.Held.{ledger}
@@ -9,7 +9,9 @@ use Rattle.coordinator.specs.Settling.{TakesUp}
 use Rattle.names.specs.declared.digest.Digest.{Digest}
 use Rattle.names.specs.declared.limits.TheConstants.{NODES}
 use Rattle.farm_base.specs.declared.message.Message.{Message}
-use Rattle.filekeeper.specs.Keepers.{Filed, GatherSaves, FileGathers, FileSaves, FileLoads, FileSyncs, IsLeft, file_texts}
+use Rattle.filekeeper.specs.Disks.{Leaves}
+use Rattle.filekeeper.specs.Keepers.{Filed, GatherSaves, FileGathers, FileSaves, FileLoads, FileSyncs, IsDurable, IsLeft, file_texts}
+use Rattle.filekeeper.specs.Settled.{HoldsAny}
 use Rattle.protocol.specs.Farm.{farm_limits}
 use Rattle.protocol.specs.Ledger.{Ledger}
 use Rattle.protocol.specs.Machine.{Told}
@@ -23,7 +25,7 @@ use Rattle.services.specs.declared.settled.Settled.{Settled}
 use Rattle.services.specs.declared.settled.Settled.TheVariants.{Lasts, Failed}
 use Rattle.coordinatorfilter.specs.Carried.{Saving, Loading, Syncing}
 use Rattle.services.specs.Says.{Says, AreOfTheFarm}
-use Rattle.services.specs.Served.{Steps, Answers, Batch}
+use Rattle.services.specs.Served.{Steps, Settling, Answers, Batch}
 use Rattle.coordinatorfilter.specs.Written.{Filters, Settles}
 use Rattle.coordinatorfilter.specs.Written.Filters.{Calls, Stops, Shows, Drops}
 
@@ -178,3 +180,50 @@ APowerFailureOverFilesIsARun = APowerFailureIsARun file_saves FileLoads (λ f. f
 
 abbrev pub AStartOverFilesIsARun : Type 0
 AStartOverFilesIsARun = AStartIsARun FileLoads (λ f. f.texts) file_texts
+
+-- ---- crashes, over files
+
+-- a step over such a keeper, and what makes answers last there
+abbrev pub file_steps : List ℕ → Steps (Seen Filed)
+file_steps key = filter_steps file_saves FileLoads (λ f. f.texts) key
+
+abbrev pub file_settles : Settling (Seen Filed)
+file_settles = Settles FileSyncs FileLoads (λ f. f.texts) file_texts
+
+-- from the first of these coordinators to the last it answered batches, and of none could it make the answers last: so
+-- none of these was written
+pub data Falters (Hears : List (List ℕ) → Type 0) (key : List ℕ) (first : Seen Filed) : Seen Filed → Type 0 where
+  Not_yet : Falters Hears key first first
+  Once_more : (limit : ℕ) (lines : List (List ℕ)) (text : List ℕ) (old new : Seen Filed) (restart : Result ⊤ CoordRefusal)
+      → Falters Hears key first old → Hears lines
+      → (b : Batch (file_steps key) file_settles limit lines text old new) → b.settled ≡ Failed restart
+      → Falters Hears key first new
+
+-- and then it answers one batch more, whose answers last or don't: what it does in all of them the coordinator of
+-- processes may do, with the messages of the last. While it is up whatever files a crash leaves hold all that it keeps
+abbrev pub AReturnOverFilesIsARun : Type 0
+AReturnOverFilesIsARun =
+    (sha : List ℕ → Digest) (key : List ℕ) (limit : ℕ) (lines : List (List ℕ)) (text : List ℕ)
+    (first old new : Seen Filed) (p : Processes)
+    → p.coordinator ≡ process_of (λ f. f.texts) first
+    → Falters (λ heard. AreOfTheFarm key heard p.written) key first old → AreOfTheFarm key lines p.written
+    → (b : Batch (file_steps key) file_settles limit lines text old new) →
+    let messages : List Message =
+    batch_messages file_saves FileLoads FileSyncs (λ f. f.texts) file_texts key limit lines text old new b in
+    Runs sha farm_limits NODES p (with_coordinator p (process_of (λ f. f.texts) new) messages) × Says key messages text
+    × (new.down ≡ false → (file_texts new.keeper ≡ new.keeper.texts) × IsDurable new.keeper)
+
+-- a kill or a power failure, at any moment: at first all that it kept lasted, since then it could make no answers last,
+-- and now it is idle or answers lines. Whatever files a crash leaves at a moment up to the end of these lines, opening
+-- them gives texts that the rules let the coordinator be gone with. So a save that failed may have kept either record,
+-- whichever of them the keeper takes it for
+abbrev pub ACrashOverFilesIsARun : Type 0
+ACrashOverFilesIsARun =
+    (sha : List ℕ → Digest) (key : List ℕ) (limit : ℕ) (lines : List (List ℕ)) (text : List ℕ)
+    (first old new : Seen Filed) (p : Processes)
+    → p.coordinator ≡ process_of (λ f. f.texts) first
+    → file_texts first.keeper ≡ first.keeper.texts → IsDurable first.keeper
+    → Falters (λ heard. AreOfTheFarm key heard p.written) key first old → AreOfTheFarm key lines p.written
+    → (new ≡ old) ⊎ Batch (file_steps key) file_settles limit lines text old new
+    → Leaves (HoldsAny (λ left. Runs sha farm_limits NODES p (with_coordinator p (gone_with left) [])))
+    first.keeper.calls new.keeper.calls

@@ -13,6 +13,8 @@ ghost use Rattle.coordinatorfilter.specs.Rules.{
   AKillOverFilesIsARun,
   APowerFailureOverFilesIsARun,
   AStartOverFilesIsARun,
+  AReturnOverFilesIsARun,
+  ACrashOverFilesIsARun,
 };
 
 use saverecord::Keeper;
@@ -54,4 +56,11 @@ pub fn ends_and_starts_over_files_are_runs()
     ensures kills { AKillOverFilesIsARun }
     ensures power_failures { APowerFailureOverFilesIsARun }
     ensures starts { AStartOverFilesIsARun }
+{}
+
+/// Kills and power failures at any moment over a `FileKeeper` that gathers, also after a save or a sync failed: what its device's calls
+/// may leave is what the coordinator had decided of the first lines.
+pub fn crashes_over_files_are_runs()
+    ensures returns { AReturnOverFilesIsARun }
+    ensures crashes { ACrashOverFilesIsARun }
 {}

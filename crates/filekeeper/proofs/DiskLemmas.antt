@@ -1,7 +1,7 @@
 -- What a crash leaves while calls are made.
-use Rattle.std.proofs.Common.{◌≡◌, ℕ, Bool, true, false, List, [], ◌∷◌, inl, inr, refl, sym, subst}
+use Rattle.std.proofs.Common.{◌≡◌, ℕ, Bool, true, false, List, [], ◌∷◌, ◌++◌, inl, inr, refl, sym, ap, ◌∙◌, subst, length, length-append, arith}
 use Rattle.filekeeper.specs.Calls.{Called}
-use Rattle.filekeeper.specs.Disks.{Files, MayLeave, IsTidied, Leaves}
+use Rattle.filekeeper.specs.Disks.{Files, MayLeave, IsAmid, IsTidied, Leaves}
 use Rattle.filekeeper.specs.Disks.Leaves.{Begins, Goes_on}
 use Rattle.filekeeper.specs.declared.device_call.DeviceCall.TheVariants.{SyncNames, Cut, SyncLog}
 
@@ -9,6 +9,22 @@ use Rattle.filekeeper.specs.declared.device_call.DeviceCall.TheVariants.{SyncNam
 pub at_last : (P : Files → Type 0) (first last : List Called) → Leaves P first last → (f : Files) → MayLeave last f → P f
 at_last P first last (Begins here) f left = here f left
 at_last P first last (Goes_on call earlier before here) f left = here f left
+
+-- at each moment
+pub at_moment : (P : Files → Type 0) (first moment last : List Called) → Leaves P first last → IsAmid first moment last → (f : Files) → MayLeave moment f → P f
+at_moment P first moment last leaves amid = at leaves amid.before amid.since amid.moment_is amid.last_is
+  where
+    apart : (since before : List Called) (call : Called) → first ≡ (call ∷ since) ++ moment → moment ≡ before ++ first → ⊥
+    apart since before call last_is moment_is =
+        let l = ap length last_is ∙ length-append (call ∷ since) moment in
+        let m = ap length moment_is ∙ length-append before first in
+        omega (arith, l, m)
+
+    at : {last : List Called} → Leaves P first last → (before since : List Called) → moment ≡ before ++ first → last ≡ since ++ moment → (f : Files) → MayLeave moment f → P f
+    at (Begins here) before [] moment_is last_is f left = here f (subst (λ cs. MayLeave cs f) (sym last_is) left)
+    at (Begins here) before (call ∷ since) moment_is last_is f left = absurd (apart since before call last_is moment_is)
+    at (Goes_on call earlier more here) before [] moment_is last_is f left = here f (subst (λ cs. MayLeave cs f) (sym last_is) left)
+    at (Goes_on call earlier more here) before (x ∷ since) moment_is last_is f left = at more before since moment_is (cc last_is) f left
 
 -- one call more
 pub goes_on : (P : Files → Type 0) (first last : List Called) (call : Called) (new : List Called) → new ≡ call ∷ last → Leaves P first last

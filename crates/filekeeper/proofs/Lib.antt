@@ -1,8 +1,11 @@
 mod FramingLemmas
-mod DiskLemmas
+pub mod DiskLemmas
 mod CrashLemmas
 mod TakingLemmas
 mod AddingLemmas
 mod ReplacingLemmas
 mod SyncLemmas
 mod LoadLemmas
+mod StandingLemmas
+pub mod KeptLemmas
+pub mod LeftLemmas

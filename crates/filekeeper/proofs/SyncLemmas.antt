@@ -25,8 +25,8 @@ module _ (old : Texts) (more : List (List ℕ)) (told : All IsTold old.entries) 
   nothing_written first settled = some_left first first (leaves_first old.whole old.entries more first settled)
 
   -- the log is cut behind the old entries
-  pub cut_back : (len : ℕ) (first mid last : List Called) → len ≡ length (log_bytes old.whole old.entries) → Leaves (IsAddedTo old more) first mid → Leaves (IsTidied len mid) mid last → Leaves (HoldsSome old more) first last
-  cut_back len first mid last len_is before after = some_left first last (and_then (IsAddedTo old more) (IsTidied len mid) first mid last before after so)
+  pub cut_back_added : (len : ℕ) (first mid last : List Called) → len ≡ length (log_bytes old.whole old.entries) → Leaves (IsAddedTo old more) first mid → Leaves (IsTidied len mid) mid last → Leaves (IsAddedTo old more) first last
+  cut_back_added len first mid last len_is before after = and_then (IsAddedTo old more) (IsTidied len mid) first mid last before after so
     where
       so : (f : Files) → IsTidied len mid f → IsAddedTo old more f
       so f (inl left) = at_last (IsAddedTo old more) first mid before f left
@@ -40,3 +40,6 @@ module _ (old : Texts) (more : List (List ℕ)) (told : All IsTold old.entries) 
                   ∙ take_at L (take was.1.0 (log_bytes old.whole more)) (length L) refl ∙ sym (append-nil L),
             ),
           )
+
+  pub cut_back : (len : ℕ) (first mid last : List Called) → len ≡ length (log_bytes old.whole old.entries) → Leaves (IsAddedTo old more) first mid → Leaves (IsTidied len mid) mid last → Leaves (HoldsSome old more) first last
+  cut_back len first mid last len_is before after = some_left first last (cut_back_added len first mid last len_is before after)

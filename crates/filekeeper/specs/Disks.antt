@@ -80,6 +80,13 @@ MayLeave ((SyncLog false, none) ∷ earlier) f = MayLeave earlier f
 abbrev pub IsTidied : ℕ → List Called → Files → Type 0
 IsTidied len calls f = MayLeave calls f ⊎ ((d : Files) × (g : Files) × MayLeave calls d × MaySee calls g × (d.whole ≡ g.whole) × (f ≡ cut_to len d))
 
+-- once these calls were made, from the first ones on and up to the last ones
+pub record IsAmid (first moment last : List Called) : Type 0 where
+  pub before : List Called
+  pub since : List Called
+  pub moment_is : moment ≡ before ++ first
+  pub last_is : last ≡ since ++ moment
+
 -- from the first calls on, at each moment up to the last ones: whatever a crash leaves then is so
 pub data Leaves (P : Files → Type 0) (first : List Called) : List Called → Type 0 where
   Begins : ((f : Files) → MayLeave first f → P f) → Leaves P first first

@@ -16,6 +16,10 @@ files_of texts = record { whole = texts.whole; log = log_bytes texts.whole texts
 abbrev pub Holds : Texts → Files → Type 0
 Holds texts f = AreTextsOf f.whole f.log texts
 
+-- opening gives some texts of this kind
+abbrev pub HoldsAny : (Texts → Type 0) → Files → Type 0
+HoldsAny Are f = (texts : Texts) × Are texts × Holds texts f
+
 -- files that hold some texts give these and no others
 abbrev pub WhatIsHeldIsGiven : Type 0
 WhatIsHeldIsGiven = (f : Files) (held texts : Texts) → Holds held f → AreTextsOf f.whole f.log texts → texts ≡ held
@@ -61,6 +65,10 @@ HoldsOneOf old new f = Holds old f ⊎ Holds new f
 -- the texts stand in these bytes of the record's file and of its log's, and more may follow them
 abbrev pub StandsIn : Texts → List ℕ → List ℕ → Type 0
 StandsIn texts whole log = (whole ≡ texts.whole) × ((rest : List ℕ) × (log ≡ log_bytes texts.whole texts.entries ++ rest))
+
+-- whatever a crash after these calls leaves of the texts' record, these stand first in its log
+abbrev pub AreStanding : List Called → Texts → Type 0
+AreStanding calls texts = (f : Files) → MayLeave calls f → f.whole ≡ texts.whole → cut_to (length (log_bytes texts.whole texts.entries)) f ≡ files_of texts
 
 -- since the first calls the files were read, and these texts stood there
 abbrev pub WereRead : Texts → List Called → List Called → Type 0

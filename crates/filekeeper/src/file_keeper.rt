@@ -1,7 +1,7 @@
 //! Keeps a record in files.
 ghost use Rattle.std.specs.Prelude.{◌≡◌, ◌≢◌, ◌≤◌, ◌⊎◌, ◌↔◌, true, IsTrue, IfOk, OnOk, OnErr, Err};
 ghost use Rattle.std.specs.Result.{is_ok, result_err};
-ghost use Rattle.filekeeper.specs.Keepers.{Filed, FileSaves, FileLoads, FileGathers, FileSyncs, IsOpened, failed_once, file_texts, lasts, left_by};
+ghost use Rattle.filekeeper.specs.Keepers.{Filed, FileSaves, FileLoads, FileGathers, FileSyncs, IsDurable, IsOpened, LeavesAny, LoadsTexts, MayLast, SavesTexts, SyncsTexts, failed_once, file_texts, lasts, left_by};
 ghost use Rattle.filekeeper.specs.Settled.{WereRead};
 ghost use Rattle.saverecord.specs.Keepers.{HasFailed};
 ghost use Rattle.saverecord.specs.Texts.{whole_alone, with_text};
@@ -109,7 +109,9 @@ impl<'a, R: Files> FileKeeper<'a, R> {
     /// Writes the entries that are gathered only. It fails while the files are unsettled, also where no entry is gathered: a record that was
     /// saved may not last then. A failure is counted.
     fn write(&mut self) -> Result<(), SaveFault>
-        ensures exact { FileSyncs self.old (is_ok result) self.new }
+        ensures exact { SyncsTexts self.old (is_ok result) self.new }
+        ensures any_moment { LeavesAny (MayLast self.old) self.old self.new }
+        ensures durable { OnOk result (IsDurable self.new) }
         ensures cause { OnErr result (HasFailed self.old.failures self.new.failures) }
         ensures count { self.old.failures ≤ self.new.failures }
     {
@@ -120,14 +122,66 @@ impl<'a, R: Files> FileKeeper<'a, R> {
         Ok(())
     }
 
+    /// Puts a record of these bytes in the place of all texts. A failure is counted.
+    fn put_whole(&mut self, bytes: Vec<u8>) -> Result<(), SaveFault>
+        ensures exact { SavesTexts self.old (whole_alone bytes.items) (is_ok result) self.new }
+        ensures any_moment { LeavesAny (λ left. MayLast self.old left ⊎ (left ≡ whole_alone bytes.items)) self.old self.new }
+        ensures durable { OnOk result (IsDurable self.new) }
+        ensures cause { OnErr result (HasFailed self.old.failures self.new.failures) }
+        ensures count { self.old.failures ≤ self.new.failures }
+    {
+        if self.files.replace(bytes).is_err() {
+            self.failed();
+            return Err(SaveFault);
+        }
+        Ok(())
+    }
+
+    /// Adds an entry, and writes it.
+    fn add(&mut self, entry: Vec<u8>) -> Result<(), KeeperRefusal>
+        ensures exact { result ≢ Err KeeperRefusal.OutOfMemory → SavesTexts self.old (with_text entry.items self.old.texts) (is_ok result) self.new }
+        ensures any_moment { LeavesAny (λ left. MayLast self.old left ⊎ (left ≡ with_text entry.items self.old.texts)) self.old self.new }
+        ensures durable { OnOk result (IsDurable self.new) }
+        ensures cause { result ≡ Err KeeperRefusal.Fault → HasFailed self.old.failures self.new.failures }
+        ensures same { result ≡ Err KeeperRefusal.OutOfMemory → self.new ≡ self.old }
+        ensures count { self.old.failures ≤ self.new.failures }
+    {
+        if self.files.gather(entry).is_err() {
+            return Err(KeeperRefusal::OutOfMemory);
+        }
+        if self.write().is_err() {
+            self.files.drop_last();
+            return Err(KeeperRefusal::Fault);
+        }
+        Ok(())
+    }
+
     /// Has the files hold all texts.
     fn load_files(&mut self, alloc: Global) -> io::Result<()>
         ensures ok { OnOk result (self.new ≡ left_by self.new.calls true (lasts self.old)) }
         ensures err { OnErr result ((self.new ≡ left_by self.new.calls self.new.settled self.old)
             ⊎ (self.new ≡ left_by self.new.calls self.new.settled (lasts self.old))) }
+        ensures any_moment { LeavesAny (MayLast self.old) self.old self.new }
+        ensures durable { OnOk result (IsDurable self.new) }
         ensures read { OnOk result (WereRead (file_texts self.old) self.old.calls self.new.calls) }
     {
         self.files.load(alloc)
+    }
+
+    /// The texts, which the files hold then.
+    fn load_texts(&mut self, alloc: Global) -> Result<Log, KeeperRefusal>
+        ensures exact { LoadsTexts self.old (result_err result) self.new }
+        ensures texts { IfOk result (λ log. log ≡ self.old.texts) }
+        ensures any_moment { LeavesAny (MayLast self.old) self.old self.new }
+        ensures durable { OnOk result (IsDurable self.new) }
+        ensures cause { result ≡ Err KeeperRefusal.Fault → HasFailed self.old.failures self.new.failures }
+        ensures count { self.old.failures ≤ self.new.failures }
+        ensures read { OnOk result (WereRead (file_texts self.old) self.old.calls self.new.calls) }
+    {
+        match self.load_files(alloc) {
+            Ok(()) => copied(alloc, self.log()),
+            Err(error) => Err(self.refusal_of(&error)),
+        }
     }
 
     /// Why a load is refused with this error. A fault is counted. Entries that are gathered only can't be told to last, so that want of
@@ -135,6 +189,7 @@ impl<'a, R: Files> FileKeeper<'a, R> {
     fn refusal_of(&mut self, error: &io::Error) -> KeeperRefusal
         ensures memory { result ≡ KeeperRefusal.OutOfMemory → (self.new ≡ self.old) × (self.old ≡ lasts self.old) }
         ensures fault { result ≡ KeeperRefusal.Fault → (self.new ≡ failed_once self.old) × HasFailed self.old.failures self.new.failures }
+        ensures calls { self.new.calls ≡ self.old.calls }
         ensures count { self.old.failures ≤ self.new.failures }
     {
         if error.kind() == ErrorKind::OutOfMemory && self.has_all() {
@@ -177,11 +232,7 @@ impl<'a, R: Files> Keeper for FileKeeper<'a, R> {
         ensures count { self.old.failures ≤ self.new.failures }
         ensures lasts { OnOk result (file_texts self.new ≡ self.new.texts) }
     {
-        if self.files.replace(bytes).is_err() {
-            self.failed();
-            return Err(SaveFault);
-        }
-        Ok(())
+        self.put_whole(bytes)
     }
 
     fn append(&mut self, entry: Vec<u8>) -> Result<(), KeeperRefusal>
@@ -192,14 +243,7 @@ impl<'a, R: Files> Keeper for FileKeeper<'a, R> {
         ensures same { result ≡ Err KeeperRefusal.OutOfMemory → self.new ≡ self.old }
         ensures count { self.old.failures ≤ self.new.failures }
     {
-        if self.files.gather(entry).is_err() {
-            return Err(KeeperRefusal::OutOfMemory);
-        }
-        if self.write().is_err() {
-            self.files.drop_last();
-            return Err(KeeperRefusal::Fault);
-        }
-        Ok(())
+        self.add(entry)
     }
 
     fn gather(&mut self, entry: Vec<u8>) -> Result<(), AllocError>
@@ -231,10 +275,7 @@ impl<'a, R: Files> Keeper for FileKeeper<'a, R> {
         ensures lasts { OnOk result (file_texts self.new ≡ self.new.texts) }
         ensures read { OnOk result (WereRead (file_texts self.old) self.old.calls self.new.calls) }
     {
-        match self.load_files(alloc) {
-            Ok(()) => copied(alloc, self.log()),
-            Err(error) => Err(self.refusal_of(&error)),
-        }
+        self.load_texts(alloc)
     }
 
     fn failures(&self) -> u64 {

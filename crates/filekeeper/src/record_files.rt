@@ -1,8 +1,9 @@
 //! The texts of a record in its files, over a device that may lose what it wasn't told to sync.
 ghost use Rattle.std.specs.Prelude.{◌≡◌, ◌≢◌, ◌<◌, ◌≤◌, ◌⊎◌, ◌↔◌, ◌++◌, ◌∷◌, ◌+◌, [], ℕ, List, true, length, take, IfOk, IfSome, OnOk, OnErr, IsErr, IsTrue, Decides, All};
-ghost use Rattle.filekeeper.specs.Disks.{calls_of, Files, IsTidied, Leaves, MaySee};
+ghost use Rattle.filekeeper.specs.Disks.{calls_of, Files, IsTidied, Leaves, MayLeave, MaySee};
 ghost use Rattle.filekeeper.specs.Framing.{framed, log_bytes, AreTextsOf, IsTold};
-ghost use Rattle.filekeeper.specs.Settled.{Clashes, HoldsOneOf, HoldsSome, HasRead, IsAddedTo, IsCut, IsSettled, IsTakenUp, StandsIn, WereRead};
+ghost use Rattle.filekeeper.specs.Keepers.{IsLeft};
+ghost use Rattle.filekeeper.specs.Settled.{AreStanding, Clashes, HoldsAny, HoldsOneOf, HoldsSome, HasRead, IsAddedTo, IsCut, IsSettled, IsTakenUp, StandsIn, WereRead};
 ghost use Rattle.saverecord.specs.Texts.{Texts, whole_alone};
 ghost use Rattle.filekeeper.specs.declared.device_call.DeviceCall.TheVariants.{WriteDraft, RenameDraft};
 
@@ -32,6 +33,7 @@ pub struct RecordFiles<D: Device> {
     ghost within: { lasting ≤ length log.entries },
     ghost lens: { len ≡ length (log_bytes log.whole (take lasting log.entries)) },
     ghost left: { settled ≡ true → IsSettled (calls_of disk) (record log { entries = take lasting log.entries }) },
+    ghost standing: { AreStanding (calls_of disk) (record log { entries = take lasting log.entries }) },
 }
 
 /// What reading a log's file ends with.
@@ -331,6 +333,10 @@ impl<D: Device> RecordFiles<D> {
         ensures ok { OnOk result ((how_many_last self.new ≡ length (texts_in self.new).entries) × (is_settled self.new ≡ true)) }
         ensures err { OnErr result ((how_many_last self.new ≡ how_many_last self.old) ⊎ (how_many_last self.new ≡ length (texts_in self.new).entries)) }
         ensures texts { texts_in self.new ≡ texts_in self.old }
+
+        // A crash at any moment leaves what it might have left before, or what lasted, and the first of the entries that were gathered.
+        ensures any_moment { Leaves (λ f. MayLeave (calls_in self.old) f ⊎ HoldsAny (IsLeft (lasting_in self.old) (texts_in self.old)) f)
+            (calls_in self.old) (calls_in self.new) }
         ensures read { OnOk result (WereRead (lasting_in self.old) (calls_in self.old) (calls_in self.new)) }
     {
         if self.settled {

@@ -1,5 +1,5 @@
 -- A farm of these programs, as a run of processes.
-use Rattle.std.proofs.Common.{◌≡◌, List, [], ◌∷◌, ◌++◌, ℕ, codes, inl, inr, arith, refl, subst, sym}
+use Rattle.std.proofs.Common.{◌≡◌, List, [], ◌∷◌, ◌++◌, ℕ, codes, inl, inr, append-nil, arith, refl, subst, sym}
 use Rattle.std.specs.String.{string_bytes}
 use Rattle.names.specs.Contents.{content_digest, empty_digest}
 use Rattle.names.specs.declared.limits.TheConstants.{NODES}
@@ -13,10 +13,17 @@ use Rattle.protocol.specs.Lists.{In}
 use Rattle.protocol.specs.Machine.{Message}
 use Rattle.protocol.specs.Processes.{Processes, Runs, ProcessesStaySafe}
 use Rattle.protocol.specs.Processes.Runs.{Rests, Goes_on}
-use Rattle.coordinatorfilter.proofs.PowerLemmas.{power_fails_over_files}
-use Rattle.coordinatorfilter.proofs.RuleLemmas.{over_files, kill_over_files, start_over_files}
-use Rattle.processes.specs.Farms.{Farm, coordinator_messages, last_life, Does, AreTold, IsTold, EveryFarmIsARun, EveryFarmStaysSafe, first_farm}
-use Rattle.processes.specs.Farms.Does.{Answers_lines, Is_killed, Power_fails, Starts, Node_answers_lines, Node_is_killed, Node_starts}
+use Rattle.coordinator.specs.Seen.{Seen}
+use Rattle.coordinatorfilter.proofs.CrashLemmas.{crash_over_files, return_over_files, failed_says_nothing, falters_so}
+use Rattle.coordinatorfilter.proofs.RuleLemmas.{kill_over_files, start_over_files}
+use Rattle.coordinatorfilter.specs.Rules.{Falters, with_coordinator, gone_with}
+use Rattle.filekeeper.proofs.DiskLemmas.{at_moment}
+use Rattle.filekeeper.proofs.KeptLemmas.{held_is_given}
+use Rattle.filekeeper.specs.Keepers.{Filed}
+use Rattle.filekeeper.specs.Settled.{HoldsAny}
+use Rattle.saverecord.specs.Texts.{Texts}
+use Rattle.processes.specs.Farms.{Farm, coordinator_messages, last_life, Does, HasFaltered, AreTold, IsTold, EveryFarmIsARun, EveryFarmStaysSafe, first_farm}
+use Rattle.processes.specs.Farms.Does.{Answers_lines, Fails_to_save, Is_killed, Crashes, Starts, Node_answers_lines, Node_is_killed, Node_starts}
 use Rattle.processes.specs.Farms.Comes_to.{Stays, And_then}
 use Rattle.processes.specs.Served.{started_text}
 use Rattle.services.specs.Says.{Says, Offers, AreOfTheFarm, AreWritten}
@@ -32,6 +39,10 @@ run_on p q r h (Goes_on from mid to early step) = Goes_on p mid r (run_on p q mi
 -- what comes from outside was written
 heard : (key : List ℕ) (farm : Farm) (lines : List (List ℕ)) → IsTold key farm → AreWritten key lines farm.texts → AreOfTheFarm key lines farm.processes.written
 heard key farm lines told written sealed m i is = (let found = written sealed m i is in told found.0 sealed m found.1 found.2 is)
+
+faltered : (key : List ℕ) (farm : Farm) (first old : Seen Filed) → IsTold key farm → HasFaltered key farm first old → Falters (λ lines. AreOfTheFarm key lines farm.processes.written) key first old
+faltered key farm first old told before =
+    falters_so (λ lines. AreWritten key lines farm.texts) (λ lines. AreOfTheFarm key lines farm.processes.written) key first old (λ lines written. heard key farm lines told written) before
 
 later_in : (m : Message) (xs ys : List Message) → In m ys → In m (xs ++ ys)
 later_in m [] ys i = i
@@ -51,6 +62,10 @@ tells key texts written messages text says told t sealed m i offered is =
     (λ old. still_in m written messages (told t sealed m old offered is))
     (λ new. later_in m written messages (only_said key messages text says sealed m (subst (λ z. Offers z sealed) new offered) is))
 
+-- one more text, which says nothing
+tells_nothing : (key : List ℕ) (texts : List (List ℕ)) (written : List Message) (text : List ℕ) → Says key [] text → AreTold texts key written → AreTold (texts ++ text ∷ []) key written
+tells_nothing key texts written text says told = subst (AreTold (texts ++ text ∷ []) key) (append-nil written) (tells key texts written [] text says told)
+
 -- no text more
 stays_told : (key : List ℕ) (texts : List (List ℕ)) (written : List Message) → AreTold texts key written → AreTold texts key (written ++ [])
 stays_told key texts written told t sealed m i offered is = still_in m written [] (told t sealed m i offered is)
@@ -63,17 +78,23 @@ Goes key farm later = Runs content_digest farm_limits NODES farm.processes later
 
 does_run : (key : List ℕ) (farm later : Farm) → IsTold key farm → Does key farm later → Goes key farm later
 unfolding Goes
-does_run key farm later told (Answers_lines limit lines text old new same written b) =
-    let done = over_files content_digest key limit lines text old new farm.processes same (heard key farm lines told written) b in
-    (done.0, tells key farm.texts farm.processes.written (coordinator_messages key limit lines text old new b) text done.2 told)
+does_run key farm later told (Answers_lines limit lines text first old new same before written b) =
+    let done = return_over_files content_digest key limit lines text first old new farm.processes same (faltered key farm first old told before) (heard key farm lines told written) b in
+    (done.0, tells key farm.texts farm.processes.written (coordinator_messages key limit lines text old new b) text done.1 told)
+does_run key farm later told (Fails_to_save limit lines text first old new restart same before written b failed) =
+    let done = return_over_files content_digest key limit lines text first old new farm.processes same (faltered key farm first old told before) (heard key farm lines told written) b in
+    (Rests farm.processes, tells_nothing key farm.texts farm.processes.written text (subst (λ messages. Says key messages text) (failed_says_nothing key limit lines text old new b restart failed) done.1) told)
 does_run key farm later told (Is_killed limit lines answers old new same written h) = (
   kill_over_files content_digest key limit lines answers old new farm.processes same (heard key farm lines told written) h,
   stays_told key farm.texts farm.processes.written told,
 )
-does_run key farm later told (Power_fails limit lines answers old new left same all written h settled may) = (
-  power_fails_over_files content_digest key limit lines answers old new left farm.processes same all (heard key farm lines told written) h may,
-  stays_told key farm.texts farm.processes.written told,
-)
+does_run key farm later told (Crashes limit lines text first old new moment files left same lasting durable before written answers amid may held) =
+    let leaves = crash_over_files content_digest key limit lines text first old new farm.processes same lasting durable (faltered key farm first old told before) (heard key farm lines told written) answers in
+    let Reached : Texts → Type 0 = λ t. Runs content_digest farm_limits NODES farm.processes (with_coordinator farm.processes (gone_with t) []) in
+    let found = at_moment (HoldsAny Reached) first.keeper.calls moment new.keeper.calls leaves amid files may in (
+      subst Reached (sym (held_is_given files found.0 left found.2 held)) found.1,
+      stays_told key farm.texts farm.processes.written told,
+    )
 does_run key farm later told (Starts keeper new same taken) = (
   (start_over_files content_digest keeper new farm.processes same taken).0,
   tells key farm.texts farm.processes.written [] started_text (fixed key (codes " started") (Lacks-from_test 10 (codes " started") refl)) told,

@@ -1,13 +1,17 @@
 -- A farm of these programs: a coordinator over a record in files, and nodes over folders (this project's own). Its
 -- premises are those of protocol's processes, in whose words it is told.
-use Rattle.std.specs.Prelude.{◌≡◌, ℕ, true, List, [], ◌∷◌, ◌++◌}
+use Rattle.std.specs.Prelude.{◌≡◌, ◌⊎◌, ℕ, List, [], ◌∷◌, ◌++◌, Result, ⊤}
 use Rattle.std.specs.String.{string_bytes}
 use Rattle.farmwire.specs.Sealed.{IsSealed}
 use Rattle.coordinator.specs.Seen.{Seen}
 use Rattle.coordinator.specs.Settling.{TakesUp}
 use Rattle.names.specs.Contents.{content_digest}
 use Rattle.names.specs.declared.limits.TheConstants.{NODES}
-use Rattle.filekeeper.specs.Keepers.{Filed, FileLoads, FileSyncs, IsLeft, file_texts}
+use Rattle.events.specs.declared.answer.CoordRefusal.{CoordRefusal}
+use Rattle.filekeeper.specs.Calls.{Called}
+use Rattle.filekeeper.specs.Disks.{Files, IsAmid, MayLeave}
+use Rattle.filekeeper.specs.Keepers.{Filed, FileLoads, FileSyncs, IsDurable, file_texts}
+use Rattle.filekeeper.specs.Settled.{Holds}
 use Rattle.nodefilter.specs.declared.filter.NodeFilter.{NodeFilter}
 use Rattle.nodefilter.specs.declared.starting.Origin.{Origin}
 use Rattle.nodefilter.specs.declared.starting.Started.{Started}
@@ -24,10 +28,11 @@ use Rattle.protocol.specs.Machine.{Message}
 use Rattle.protocol.specs.Processes.{Processes, Runs, StaySafe, first_processes}
 use Rattle.saverecord.specs.Logs.{saved_in}
 use Rattle.saverecord.specs.Texts.{Texts}
-use Rattle.coordinatorfilter.specs.Rules.{process_of, gone_with, with_coordinator, file_saves, filter_steps, batch_messages}
+use Rattle.coordinatorfilter.specs.Rules.{Falters, process_of, gone_with, with_coordinator, file_saves, filter_steps, batch_messages}
 use Rattle.processes.specs.Served.{started_text}
 use Rattle.services.specs.Says.{Offers, AreWritten}
 use Rattle.services.specs.Served.{Steps, Settling, Answers, Batch}
+use Rattle.services.specs.declared.settled.Settled.TheVariants.{Failed}
 use Rattle.coordinatorfilter.specs.Written.{Settles}
 
 abbrev pub texts_of : Filed → Texts
@@ -66,26 +71,36 @@ wrote text processes farm = record { processes = processes; texts = farm.texts +
 abbrev pub silent : Processes → Farm → Farm
 silent processes farm = record farm { processes = processes }
 
+-- from the first of these coordinators to the last it could make no answers last, to lines that were written
+abbrev pub HasFaltered : List ℕ → Farm → Seen Filed → Seen Filed → Type 0
+HasFaltered key farm first old = Falters (λ lines. AreWritten key lines farm.texts) key first old
+
 -- what one of the programs does, and the farm after it. Of the lines that come from outside those that open under the
 -- key stand in texts that were written
 pub data Does (key : List ℕ) (farm : Farm) : Farm → Type 0 where
-  -- the coordinator answers lines that come together
-  Answers_lines : (limit : ℕ) (lines : List (List ℕ)) (text : List ℕ) (old new : Seen Filed)
-      → farm.processes.coordinator ≡ process_of texts_of old → AreWritten key lines farm.texts
+  -- the coordinator answers lines that come together. So it shows what it decided of those before, if their answers
+  -- couldn't be made to last
+  Answers_lines : (limit : ℕ) (lines : List (List ℕ)) (text : List ℕ) (first old new : Seen Filed)
+      → farm.processes.coordinator ≡ process_of texts_of first → HasFaltered key farm first old → AreWritten key lines farm.texts
       → (b : Batch (coordinator_steps key) coordinator_settles limit lines text old new)
       → Does key farm (wrote text (with_coordinator farm.processes (process_of texts_of new) (coordinator_messages key limit lines text old new b)) farm)
+  -- it can't make its answers last, and says so: whether its disk has what it decided shows later
+  Fails_to_save : (limit : ℕ) (lines : List (List ℕ)) (text : List ℕ) (first old new : Seen Filed) (restart : Result ⊤ CoordRefusal)
+      → farm.processes.coordinator ≡ process_of texts_of first → HasFaltered key farm first old → AreWritten key lines farm.texts
+      → (b : Batch (coordinator_steps key) coordinator_settles limit lines text old new) → b.settled ≡ Failed restart
+      → Does key farm (wrote text farm.processes farm)
   -- it is killed when it has answered some, but written nothing
   Is_killed : (limit : ℕ) (lines answers : List (List ℕ)) (old new : Seen Filed)
       → farm.processes.coordinator ≡ process_of texts_of old → AreWritten key lines farm.texts
       → Answers (coordinator_steps key) limit old lines answers new
       → Does key farm (silent (with_coordinator farm.processes (gone_with new.keeper.texts) []) farm)
-  -- the power fails then, or in the sync that follows. Before the lines came all texts lasted, as they do while a
-  -- coordinator is up and answers nothing, and no save has failed since
-  Power_fails : (limit : ℕ) (lines answers : List (List ℕ)) (old new : Seen Filed) (left : Texts)
-      → farm.processes.coordinator ≡ process_of texts_of old → file_texts old.keeper ≡ old.keeper.texts
-      → AreWritten key lines farm.texts
-      → Answers (coordinator_steps key) limit old lines answers new
-      → new.keeper.settled ≡ true → IsLeft (file_texts new.keeper) new.keeper.texts left
+  -- it is killed or the power fails, at any moment of this, or while it is idle, from when all that it kept lasted.
+  -- Opening the files that this may leave gives these texts
+  Crashes : (limit : ℕ) (lines : List (List ℕ)) (text : List ℕ) (first old new : Seen Filed) (moment : List Called) (files : Files) (left : Texts)
+      → farm.processes.coordinator ≡ process_of texts_of first → file_texts first.keeper ≡ first.keeper.texts → IsDurable first.keeper
+      → HasFaltered key farm first old → AreWritten key lines farm.texts
+      → (new ≡ old) ⊎ Batch (coordinator_steps key) coordinator_settles limit lines text old new
+      → IsAmid first.keeper.calls moment new.keeper.calls → MayLeave moment files → Holds left files
       → Does key farm (silent (with_coordinator farm.processes (gone_with left) []) farm)
   -- it starts from what its files hold
   Starts : (keeper : Filed) (new : Seen Filed) → farm.processes.coordinator.disk ≡ saved_in keeper.texts

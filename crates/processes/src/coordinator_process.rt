@@ -12,6 +12,8 @@ ghost use Rattle.coordinatorfilter.specs.Rules.{
   AKillOverFilesIsARun,
   APowerFailureOverFilesIsARun,
   AStartOverFilesIsARun,
+  AReturnOverFilesIsARun,
+  ACrashOverFilesIsARun,
 };
 
 use super::LONGEST_LINE;
@@ -22,7 +24,7 @@ use super::laws::a_farm_is_safe;
 use coordinatorfilter::CoordinatorFilter;
 use coordinatorfilter::laws::{
     a_batch_is_a_run, a_batch_over_files_is_a_run, a_kill_is_a_run, a_power_failure_is_a_run,
-    a_start_is_a_run, ends_and_starts_over_files_are_runs,
+    a_start_is_a_run, crashes_over_files_are_runs, ends_and_starts_over_files_are_runs,
 };
 use saverecord::Keeper;
 use services::serve;
@@ -103,12 +105,15 @@ pub fn run_coordinator<R: Files<File = File> + Input + AllocGlobal, W: Write>(
     ensures killed { AKillOverFilesIsARun }
     ensures power_failed { APowerFailureOverFilesIsARun }
     ensures started { AStartOverFilesIsARun }
+    ensures returned { AReturnOverFilesIsARun }
+    ensures crashed { ACrashOverFilesIsARun }
     // With such nodes as `run_node` it is a farm of which the headline holds.
     ensures farm { EveryFarmStaysSafe }
 {
     a_farm_is_safe();
     a_batch_over_files_is_a_run();
     ends_and_starts_over_files_are_runs();
+    crashes_over_files_are_runs();
     let key = key_of(rt, place.key)?;
     let _lock = lock_of(rt, place.record)?;
     let coordinator = started(rt, place.record)?;

@@ -3,7 +3,7 @@ use Rattle.std.proofs.lemmas.List.{take_more}
 use Rattle.std.proofs.lemmas.List.Elements.{All-take}
 use Rattle.filekeeper.specs.Disks.{calls_of}
 use Rattle.filekeeper.specs.Framing.{log_bytes, IsTold}
-use Rattle.filekeeper.specs.Settled.{IsSettled}
+use Rattle.filekeeper.specs.Settled.{AreStanding, IsSettled}
 use Rattle.saverecord.specs.Texts.{Texts}
 use Rattle.filekeeper.proofs.record_files.RecordFiles.drop_last.Goals as goal
 
@@ -31,6 +31,8 @@ invariant_of-self g c =
       lens = x.lens ∙ ap (λ es. length (log_bytes x.log.whole es)) (sym first) ∙ ap (λ (s : Texts). length (log_bytes s.whole (take x.lasting s.entries))) (sym is);
       left = λ settled. subst (λ (s : Texts). IsSettled (calls_of x.disk) (record s { entries = take x.lasting s.entries })) (sym is)
           (subst (λ es. IsSettled (calls_of x.disk) (record { whole = x.log.whole; entries = es })) (sym first) (x.left settled));
+      standing = subst (λ (s : Texts). AreStanding (calls_of x.disk) (record s { entries = take x.lasting s.entries })) (sym is)
+          (subst (λ es. AreStanding (calls_of x.disk) (record { whole = x.log.whole; entries = es })) (sym first) x.standing);
     }
   where
     fewer : (a n : ℕ) → a < n → a ≤ n - 1

@@ -3,7 +3,7 @@ use Rattle.std.proofs.lemmas.List.{take-append-le}
 use Rattle.std.proofs.lemmas.List.Elements.{All-push}
 use Rattle.filekeeper.specs.Disks.{calls_of}
 use Rattle.filekeeper.specs.Framing.{log_bytes, IsTold}
-use Rattle.filekeeper.specs.Settled.{IsSettled}
+use Rattle.filekeeper.specs.Settled.{AreStanding, IsSettled}
 use Rattle.saverecord.specs.Texts.{Texts, with_text}
 use Rattle.filekeeper.proofs.record_files.RecordFiles.gather.Goals as goal
 
@@ -43,4 +43,5 @@ invariant_of-self g c =
       within = as_many x.lasting x.log new entry x.within more;
       lens = x.lens ∙ ap (λ (t : Texts). length (log_bytes t.whole t.entries)) same;
       left = λ settled. subst (IsSettled (calls_of x.disk)) same (x.left settled);
+      standing = subst (AreStanding (calls_of x.disk)) same x.standing;
     }
