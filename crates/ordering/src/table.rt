@@ -1,13 +1,15 @@
 ghost use Rattle.std.specs.Prelude.{◌≡◌, ◌++◌, ◌∷◌, ℕ, [], List, Some, length, if◌then◌else◌, OnOk, IfOk, IfSome, IfNone, slice_get, OnErr};
 
+use super::last_bytes::LastBytes;
 use names::Digest;
 use std::alloc::{AllocError, Global};
 use std::collections::HashMap;
+use std::hash::BuildHasherDefault;
 
 /// The vertices of a list of digests: the first place of each digest.
 #[derive(Drop)]
 pub struct Table {
-    numbers: HashMap<Digest, usize>,
+    numbers: HashMap<Digest, usize, BuildHasherDefault<LastBytes>>,
     places: Vec<usize>,
 }
 
@@ -21,7 +23,7 @@ impl Table {
         ensures places { places_in result ≡ [] }
     {
         Table {
-            numbers: HashMap::new(alloc),
+            numbers: HashMap::with_hasher(alloc, BuildHasherDefault::new()),
             places: Vec::new(alloc),
         }
     }
@@ -32,7 +34,7 @@ impl Table {
         ensures places { IfOk result (λ table. places_in table ≡ []) }
     {
         Ok(Table {
-            numbers: HashMap::with_capacity(alloc, expected)?,
+            numbers: HashMap::with_capacity_and_hasher(alloc, expected, BuildHasherDefault::new())?,
             places: Vec::with_capacity(alloc, expected)?,
         })
     }

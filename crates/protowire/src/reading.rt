@@ -16,6 +16,7 @@ const NUMBERS: u64 = 1 << 29;
 const ROOM: usize = 8;
 
 /// The first `len` bytes, and what follows them.
+#[inline(always)]
 fn first_bytes(bytes: &[u8], len: u64) -> Result<(&[u8], &[u8]), WireRefusal>
     ensures { result_map (λ x. (x.0.now, x.1.now)) result ≡ front_at len bytes.now }
 {
@@ -27,6 +28,7 @@ fn first_bytes(bytes: &[u8], len: u64) -> Result<(&[u8], &[u8]), WireRefusal>
 
 /// The value at the front, by its wire type, and what follows it.
 #[tactic(auto, unfolding(crate::specs::Reading::payload_at))]
+#[inline(always)]
 fn first_value(wire_type: u64, bytes: &[u8]) -> Result<(Value<'_>, &[u8]), WireRefusal>
     ensures { result_map (λ x. (payload x.0, x.1.now)) result ≡ payload_at wire_type bytes.now }
 {
@@ -54,6 +56,7 @@ fn first_value(wire_type: u64, bytes: &[u8]) -> Result<(Value<'_>, &[u8]), WireR
 
 /// The number and the value of the field at the front, and what follows it.
 #[tactic(auto, unfolding(crate::specs::Reading::field_at))]
+#[inline(always)]
 pub(crate) fn first_field(bytes: &[u8]) -> Result<(u32, Value<'_>, &[u8]), WireRefusal>
     ensures { result_map (λ x. (record { number = x.0; payload = payload x.1 }, x.2.now)) result ≡ field_at bytes.now }
 {

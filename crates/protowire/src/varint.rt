@@ -6,6 +6,7 @@ use super::refusal::WireRefusal;
 
 /// The number at the front, and what follows it.
 #[tactic(auto, unfolding(crate::specs::Reading::varint_at))]
+#[inline(always)]
 pub(crate) fn varint(bytes: &[u8]) -> Result<(u64, &[u8]), WireRefusal>
     ensures { result_map (λ x. (x.0, x.1.now)) result ≡ varint_at bytes.now }
 {

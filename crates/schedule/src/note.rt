@@ -10,17 +10,11 @@ use std::alloc::{AllocError, Global};
 use words::why_name;
 
 /// Adds some words and a number.
-pub(crate) fn push_number(
-    alloc: Global,
-    text: &mut String,
-    word: &str,
-    number: u64,
-) -> Result<(), AllocError>
+pub(crate) fn push_number(text: &mut String, word: &str, number: u64) -> Result<(), AllocError>
     ensures { OnOk result (string_bytes text.new ≡ string_bytes text.old ++ (word.now ++ decimal number)) }
 {
-    let number = number.to_string(alloc)?;
     text.push_str(word)?;
-    text.push_str(number.as_str())
+    write!(text, "{number}")
 }
 
 /// Adds a slot of a grant.
@@ -30,7 +24,7 @@ fn push_granted(alloc: Global, text: &mut String, granted: &GrantedSlot) -> Resu
     let slot = granted.slot.to_text(alloc)?;
     text.push(' ')?;
     text.push_str(slot.as_str())?;
-    push_number(alloc, text, "=", granted.base)
+    push_number(text, "=", granted.base)
 }
 
 /// Adds the slots of a grant.
@@ -47,7 +41,7 @@ fn push_slots(alloc: Global, text: &mut String, slots: &[GrantedSlot]) -> Result
 fn push_grant(alloc: Global, text: &mut String, word: &str, grant: &Grant) -> Result<(), AllocError>
     ensures { OnOk result (string_bytes text.new ≡ string_bytes text.old ++ (word.now ++ grant_text grant.now)) }
 {
-    push_number(alloc, text, word, grant.ticket.0)?;
+    push_number(text, word, grant.ticket.0)?;
     push_slots(alloc, text, grant.slots.as_slice())
 }
 
@@ -67,18 +61,16 @@ fn push_coord(alloc: Global, text: &mut String, note: &CoordNote) -> Result<(), 
         CoordNote::Granted(grant) => push_grant(alloc, text, "granted ", grant),
         CoordNote::GrantedBefore(grant) => push_grant(alloc, text, "granted before ", grant),
         CoordNote::Parked => text.push_str("parked"),
-        CoordNote::Committed(ticket) => push_number(alloc, text, "committed ", ticket.0),
-        CoordNote::CommittedBefore(ticket) => {
-            push_number(alloc, text, "committed before ", ticket.0)
-        }
-        CoordNote::Fenced(ticket) => push_number(alloc, text, "fenced ", ticket.0),
-        CoordNote::Released(ticket) => push_number(alloc, text, "released ", ticket.0),
+        CoordNote::Committed(ticket) => push_number(text, "committed ", ticket.0),
+        CoordNote::CommittedBefore(ticket) => push_number(text, "committed before ", ticket.0),
+        CoordNote::Fenced(ticket) => push_number(text, "fenced ", ticket.0),
+        CoordNote::Released(ticket) => push_number(text, "released ", ticket.0),
         CoordNote::Denied(why) => push_denied(text, *why),
         CoordNote::OldLife => text.push_str("old life"),
         CoordNote::NodeRetired => text.push_str("retired node"),
-        CoordNote::Withdrawn(ticket) => push_number(alloc, text, "withdrawn ", ticket.0),
-        CoordNote::Pruned(ticket) => push_number(alloc, text, "pruned ", ticket.0),
-        CoordNote::Retired(node) => push_number(alloc, text, "retired ", node.0 as u64),
+        CoordNote::Withdrawn(ticket) => push_number(text, "withdrawn ", ticket.0),
+        CoordNote::Pruned(ticket) => push_number(text, "pruned ", ticket.0),
+        CoordNote::Retired(node) => push_number(text, "retired ", node.0 as u64),
         CoordNote::Nudged => text.push_str("nudged"),
         CoordNote::Nothing => text.push_str("nothing"),
     }
@@ -89,18 +81,18 @@ fn push_node(alloc: Global, text: &mut String, note: &NodeNote) -> Result<(), Al
     ensures { OnOk result (string_bytes text.new ≡ string_bytes text.old ++ node_note_text note.now) }
 {
     match note {
-        NodeNote::Asked(ask) => push_number(alloc, text, "asked ", ask.0),
-        NodeNote::Begun(ticket) => push_number(alloc, text, "begun ", ticket.0),
-        NodeNote::Finished(ticket) => push_number(alloc, text, "finished ", ticket.0),
-        NodeNote::Aborted(ticket) => push_number(alloc, text, "aborted ", ticket.0),
+        NodeNote::Asked(ask) => push_number(text, "asked ", ask.0),
+        NodeNote::Begun(ticket) => push_number(text, "begun ", ticket.0),
+        NodeNote::Finished(ticket) => push_number(text, "finished ", ticket.0),
+        NodeNote::Aborted(ticket) => push_number(text, "aborted ", ticket.0),
         NodeNote::Resent => text.push_str("resent"),
-        NodeNote::Life(life) => push_number(alloc, text, "life ", life.0),
+        NodeNote::Life(life) => push_number(text, "life ", life.0),
         NodeNote::Took(grant) => push_grant(alloc, text, "took ", grant),
-        NodeNote::GaveBack(ticket) => push_number(alloc, text, "gave back ", ticket.0),
-        NodeNote::Learned(ticket) => push_number(alloc, text, "learned ", ticket.0),
-        NodeNote::Dropped(ticket) => push_number(alloc, text, "dropped ", ticket.0),
+        NodeNote::GaveBack(ticket) => push_number(text, "gave back ", ticket.0),
+        NodeNote::Learned(ticket) => push_number(text, "learned ", ticket.0),
+        NodeNote::Dropped(ticket) => push_number(text, "dropped ", ticket.0),
         NodeNote::Denied(why) => push_denied(text, *why),
-        NodeNote::Recalled(ticket) => push_number(alloc, text, "recalled ", ticket.0),
+        NodeNote::Recalled(ticket) => push_number(text, "recalled ", ticket.0),
         NodeNote::SentBlob => text.push_str("sent blob"),
         NodeNote::BlobTaken => text.push_str("blob taken"),
         NodeNote::Forgot => text.push_str("forgot"),

@@ -7,6 +7,9 @@ use super::refusal_names::refusal_name;
 use events::{EventRefusal, Outcome};
 use std::alloc::{AllocError, Global};
 
+/// Most lines have no more bytes than this.
+const LINE: usize = 48;
+
 /// Adds the numbers of the messages that were sent. The last number may be above every `u64`.
 fn push_sent(alloc: Global, text: &mut String, first: u64, sent: u64) -> Result<(), AllocError>
     ensures { OnOk result (string_bytes text.new ≡ string_bytes text.old ++ sent_text first sent) }
@@ -14,7 +17,7 @@ fn push_sent(alloc: Global, text: &mut String, first: u64, sent: u64) -> Result<
     if sent == 0 {
         return Ok(());
     }
-    push_number(alloc, text, " -> ", first)?;
+    push_number(text, " -> ", first)?;
     if sent == 1 {
         return Ok(());
     }
@@ -51,7 +54,8 @@ pub fn print_outcome(
 ) -> Result<String, AllocError>
     ensures { IfOk result (λ text. string_bytes text ≡ outcome_text number outcome.now) }
 {
-    let mut text = number.to_string(alloc)?;
+    let mut text = String::with_capacity(alloc, LINE)?;
+    push_number(&mut text, "", number)?;
     text.push(' ')?;
     push_answer(alloc, &mut text, outcome)?;
     text.push('\n')?;

@@ -1,17 +1,17 @@
 -- The edges of vertices as a graph of their numbers.
-use Rattle.std.proofs.Common.{◌≡◌, ℕ, zero, suc, ◌+◌, ◌<◌, ◌⊎◌, inl, inr, List, [], ◌∷◌, ◌++◌, length, get_or, Option, Some, None, refl, sym, ap, ◌∙◌, subst, arith}
-use Rattle.std.specs.List.{AllByRecursion, Contains, slice_get, AllZip}
+use Rattle.std.proofs.Common.{◌≡◌, ℕ, zero, suc, ◌+◌, ◌<◌, ◌⊎◌, inl, inr, List, [], ◌∷◌, ◌++◌, length, get_or, take, ◌≤◌, Option, Some, None, refl, sym, ap, ◌∙◌, subst, arith}
+use Rattle.std.specs.List.{All, AllByRecursion, Contains, slice_get, AllZip}
 use Rattle.std.specs.declared.vec.Vec.{Vec}
 use Rattle.std.specs.declared.alloc.Global.{Global}
-use Rattle.std.proofs.lemmas.List.{get_or-map, length-map, get_or_default}
+use Rattle.std.proofs.lemmas.List.{get_or-map, get_or-take, length-map, length_push, length-take-le, get_or_default}
+use Rattle.std.proofs.lemmas.List.Elements.{All-contains}
 use Rattle.std.proofs.lemmas.Bool.{cases_lt}
-use Rattle.std.proofs.lemmas.List.Elements.{Contains-push_cases, Contains-append_left, Contains-push}
 use Rattle.std.proofs.lemmas.Option.{slice_get-get_or, slice_get_within, get_or_from_slice_get}
 use Rattle.names.specs.declared.digest.Digest.{Digest}
 use Rattle.opsproto.specs.Scalars.{Text}
 use Rattle.opsproto.specs.declared.input.Input.{Input}
 use Rattle.names.proofs.NameLaws.{digest_text-injective}
-use Rattle.lists.proofs.Places.{at_Contains, Contains-at}
+use Rattle.lists.proofs.Places.{at_place, at_Contains, Contains-at, get_push_cases}
 use Rattle.ordering.specs.declared.table.Table.{Table}
 use Rattle.ordering.specs.Firsts.{number_in}
 use Rattle.ordering.specs.Rows.{row_at, HasInput, AreRows}
@@ -22,7 +22,7 @@ use Rattle.vertices.specs.declared.refusal.LoadRefusal.{LoadRefusal}
 use Rattle.vertices.specs.declared.refusal.LoadRefusal.TheVariants.{OutOfMemory}
 use Rattle.vertices.specs.Outcomes.{Each}
 use Rattle.vertices.specs.Edges.{InputCheck, IsEdge, AreEdges, Numbers, list_at, targets, GoesTo}
-use Rattle.vertices.specs.Numbered.{AreNumbers, HasTargets}
+use Rattle.vertices.specs.Numbered.{AreNumbers, GoBelow, HasTargets}
 use Rattle.vertices.specs.Loading.{HasEdge, ResultCheck, VertexCheck, GraphCheck, IsRunnable}
 use Rattle.vertices.proofs.ZipLemmas.{all_zip_length, all_zip_at, all_zip_back}
 
@@ -55,6 +55,19 @@ edge_target edges k e at =
       get_or-map (λ (edge : ℕ × ℕ). edge.0) edges k e e.0 within ∙ ap (λ (edge : ℕ × ℕ). edge.0) (get_or_from_slice_get edges k e e at),
     )
 
+-- what has an edge is in the list
+pub goes_within : (edges : List (List (ℕ × ℕ))) (a b : ℕ) → GoesTo edges a b → a < length edges
+goes_within edges a b (k, lt, is) =
+    let within : k < length (list_at edges a) = omega (arith, length-map (list_at edges a) (λ (edge : ℕ × ℕ). edge.0)) in
+    list_within edges a (get_or (list_at edges a) k (0, 0)) (k, within, get_or_default (list_at edges a) k (get_or (list_at edges a) k (0, 0)) (0, 0) within)
+
+-- edges that all go below a vertex
+pub row_below : (edges : List (List (ℕ × ℕ))) (k : ℕ) (es : List (ℕ × ℕ)) → slice_get edges k ≡ Some es → All (λ (edge : ℕ × ℕ). edge.0 < k) es
+    → (other : ℕ) → GoesTo edges k other → other < k
+row_below edges k es at all other goes =
+    let t = target_edge es other (subst (λ (xs : List (ℕ × ℕ)). Contains (targets xs) other) (list_at-get edges k es at) goes) in
+    subst (λ (x : ℕ). x < k) t.3 (All-contains (λ (edge : ℕ × ℕ). edge.0 < k) es t.1 all (Contains-at es t.0 t.1 t.2))
+
 -- ---- edges of vertices
 
 module _ (digests : List Digest) (vertices : List Vertex) (table : Table) (n : Numbers digests vertices table)
@@ -62,7 +75,7 @@ module _ (digests : List Digest) (vertices : List Vertex) (table : Table) (n : N
   -- what an edge goes to is named by an input
   pub edge_named : (a b : ℕ) → GoesTo edges a b → HasEdge vertices a b
   edge_named a b goes =
-      let less = list_at-within goes in
+      let less = goes_within edges a b goes in
       let es = list_at edges a in
       let at_es : slice_get edges a ≡ Some es = slice_get-get_or edges a [] less ∙ ap (λ (xs : List (ℕ × ℕ)). Some xs) (sym (list_at-get edges a (get_or edges a []) (slice_get-get_or edges a [] less))) in
       let v = all_zip_back (λ v es. AreEdges vertices v.op.inputs es) vertices edges a es are at_es in
@@ -76,11 +89,7 @@ module _ (digests : List Digest) (vertices : List Vertex) (table : Table) (n : N
         has = Contains-at v.0.op.inputs t.0 i.0 i.1;
         to = ap (slice_get vertices) (sym t.3) ∙ i.2.there;
         named = i.2.named;
-      } where
-        list_at-within : GoesTo edges a b → a < length edges
-        list_at-within (k, lt, is) =
-            let within : k < length (list_at edges a) = omega (arith, length-map (list_at edges a) (λ (edge : ℕ × ℕ). edge.0)) in
-            list_within edges a (get_or (list_at edges a) k (0, 0)) (k, within, get_or_default (list_at edges a) k (get_or (list_at edges a) k (0, 0)) (0, 0) within)
+      }
 
   -- what an input names an edge goes to
   pub named_edge : (a b : ℕ) → HasEdge vertices a b → GoesTo edges a b
@@ -117,11 +126,63 @@ module _ (digests : List Digest) (vertices : List Vertex) (table : Table) (n : N
 -- the numbers below one more
 pub numbers_more : (numbers : List ℕ) (k : ℕ) → AreNumbers numbers k → AreNumbers (numbers ++ k ∷ []) (k + 1)
 numbers_more numbers k h = record {
-  below = λ x c. elim (Contains-push_cases numbers k x c) [ inl old ↦ let less = h.below x old in omega arith | inr same ↦ omega arith ];
-  whole = λ x less. elim (cases_lt x k) [
-    | inl old ↦ Contains-append_left numbers (k ∷ []) x (h.whole x old)
-    | inr more ↦ let same : k ≡ x = omega arith in subst (Contains (numbers ++ k ∷ [])) same (Contains-push numbers k)
+  counted = let len = length_push numbers k in let was = h.counted in omega arith;
+  placed = λ p x at. elim (get_push_cases numbers k p x at) [
+    | inl old ↦ h.placed p x old.1
+    | inr end ↦ let was = h.counted in let here = end.0 in let same = end.1 in omega arith
   ];
+}
+
+pub numbers_below : (numbers : List ℕ) (count : ℕ) → AreNumbers numbers count → (x : ℕ) → Contains numbers x → x < count
+numbers_below numbers count h x c =
+    let at = at_Contains numbers x c in
+    let same = h.placed at.0 x at.1 in
+    let within = slice_get_within numbers at.0 x at.1 in
+    let len = h.counted in
+    omega arith
+
+pub numbers_whole : (numbers : List ℕ) (count : ℕ) → AreNumbers numbers count → (x : ℕ) → x < count → Contains numbers x
+numbers_whole numbers count h x less =
+    let len = h.counted in
+    let at = at_place numbers x (omega arith) in
+    subst (Contains numbers) (h.placed x at.0 at.1) (Contains-at numbers x at.0 at.1)
+
+-- the first of them are those below a lower count
+numbers_front : (numbers : List ℕ) (count k : ℕ) → AreNumbers numbers count → k ≤ count → AreNumbers (take k numbers) k
+numbers_front numbers count k h less =
+    let was = h.counted in
+    let len : length (take k numbers) ≡ k = length-take-le k numbers (omega arith) in
+    record {
+      counted = len;
+      placed = λ p x at.
+          let within : p < length (take k numbers) = slice_get_within (take k numbers) p x at in
+          let below : p < k = omega arith in
+          let here : p < length numbers = omega arith in
+          h.placed p x (slice_get-get_or numbers p x here
+          ∙ ap (λ (y : ℕ). Some y) (sym (get_or-take k numbers p x below) ∙ get_or_from_slice_get (take k numbers) p x x at));
+    }
+
+-- where each edge goes to a lower number, the numbers as they rise are the order
+pub numbers_order : (edges : List (List (ℕ × ℕ))) (numbers : List ℕ) → AreNumbers numbers (length edges) → GoBelow edges
+    → IsOrder (λ number. number < length edges) (GoesTo edges) numbers
+numbers_order edges numbers h below = record {
+  whole = numbers_whole numbers (length edges) h;
+  lowest = λ k place at.
+      let same : place ≡ k = h.placed k place at in
+      let within = slice_get_within numbers k place at in
+      let len = h.counted in
+      let front = numbers_front numbers (length edges) k h (omega arith) in
+      record {
+        ready = record {
+          vertex = omega arith;
+          new = λ c. let less = numbers_below (take k numbers) k front place c in absurd (omega arith);
+          inputs = λ input goes. let less = below place input goes in numbers_whole (take k numbers) k front input (omega arith);
+        };
+        lowest = λ other ready. elim (cases_lt other k) [
+          | inl less ↦ absurd (ready.new (numbers_whole (take k numbers) k front other less))
+          | inr more ↦ omega arith
+        ];
+      };
 }
 
 -- a row has the targets of its edges
@@ -143,8 +204,8 @@ pub target_rows : (edges : List (List (ℕ × ℕ))) (rows : List (Vec ℕ Globa
 target_rows edges rows numbers h is within =
     let len = all_zip_length (λ es (row : Vec ℕ Global). row.items ≡ targets es) edges rows h in
     record {
-      within = λ p c. let less = is.below p c in omega arith;
-      inputs = λ p q e. is.whole q (within p q (row_goes edges rows h p q e));
+      within = λ p c. let less = numbers_below numbers (length edges) is p c in omega arith;
+      inputs = λ p q e. numbers_whole numbers (length edges) is q (within p q (row_goes edges rows h p q e));
     }
 
 -- ---- the checks of a graph

@@ -1,4 +1,4 @@
-ghost use Rattle.std.specs.Prelude.{◌≡◌, ◌<◌, ℕ, List, length, IfOk, IfSome, IfNone};
+ghost use Rattle.std.specs.Prelude.{◌≡◌, ◌<◌, ℕ, List, length, All, IsTrue, ◌↔◌, IfOk, IfSome, IfNone};
 ghost use Rattle.std.specs.List.{AllZip};
 ghost use Rattle.names.specs.declared.digest.Digest.{Digest as SpecDigest};
 ghost use Rattle.ordering.specs.Orders.{IsOrder, IsCyclic};
@@ -6,7 +6,7 @@ ghost use Rattle.vertices.specs.declared.vertex.Vertex.{Vertex as SpecVertex};
 ghost use Rattle.vertices.specs.Outcomes.{Each, Meets};
 ghost use Rattle.vertices.specs.Asked.{Asks};
 ghost use Rattle.vertices.specs.Edges.{AreEdges, Numbers, GoesTo, targets};
-ghost use Rattle.vertices.specs.Numbered.{AreNumbers, HasTargets};
+ghost use Rattle.vertices.specs.Numbered.{AreNumbers, GoBelow, HasTargets};
 ghost use Rattle.vertices.specs.Loading.{VertexCheck};
 
 use super::edges::edges_of;
@@ -95,6 +95,25 @@ fn numbers(alloc: Global, count: usize) -> Result<Vec<usize>, AllocError>
     Ok(numbers)
 }
 
+/// Whether these edges all go to numbers below this one.
+fn go_below(edges: &[(usize, u64)], number: usize) -> bool
+    ensures { IsTrue result ↔ All (λ edge. edge.0 < number) edges.now }
+{
+    edges.iter().all(|edge| edge.0 < number)
+}
+
+/// Whether each edge goes to a lower number, as in a definition that has each step before those that take it.
+fn all_go_below(edges: &[Items<(usize, u64)>]) -> bool
+    ensures { IsTrue result → GoBelow edges.now }
+{
+    for (number, some) in edges.iter().enumerate() {
+        if !go_below(some.as_slice(), number) {
+            return false;
+        }
+    }
+    true
+}
+
 /// The order of vertices with these edges, or None where there is a cycle.
 pub(crate) fn edge_order(
     alloc: Global,
@@ -106,7 +125,10 @@ pub(crate) fn edge_order(
     ensures acyclic { IfOk result (λ answer. IfSome answer (λ _. ¬ IsCyclic (GoesTo edges.now))) }
     ensures cyclic { IfOk result (λ answer. IfNone answer (IsCyclic (GoesTo edges.now))) }
 {
-    let rows = all_targets(alloc, edges)?;
     let numbers = numbers(alloc, edges.len())?;
+    if all_go_below(edges) {
+        return Ok(Some(numbers));
+    }
+    let rows = all_targets(alloc, edges)?;
     order_of(alloc, numbers.as_slice(), rows.as_slice())
 }
