@@ -86,7 +86,7 @@ def _run_words(verbs: Any) -> None:
         verbs, "run", do_run, "runs a command with its folders leased",
         "farm run --folder locked:ccache=/tmp/ccache -- make CCACHE_DIR=/tmp/ccache CC='ccache gcc'",
     )
-    run.add_argument("--node", type=int, help="the node that runs it (the first one here)")
+    run.add_argument("--node", type=int, help="the node that runs it (the first one here that isn't retired)")
     run.add_argument("--folder", action="append", default=[], metavar="[ro=]FOLDER=PATH", help="locked:ID, private:ID or shared:ID")
     run.add_argument("--wait", type=seconds, metavar="SECONDS", help="waits no longer for the lease, and for 0 only takes what is free: else the status is 75")
     run.add_argument("--must-commit", action="store_true", help="status 75 where what the command left doesn't count")
@@ -201,39 +201,54 @@ def node_sockets(home: str) -> Iterator[str]:
     return (path for name in names if client.is_there(path := f"{home}/{name}"))
 
 
-def socket_of(home: str, node: int | None) -> str | None:
-    """The socket of a node of this machine, or of the first one."""
-    if node is not None:
-        path = f"{home}/node{node}.sock"
-        return path if client.is_there(path) else None
-    return next(node_sockets(home), None)
+def sockets_of(home: str, node: int | None) -> Iterator[str]:
+    """The socket of a node of this machine, or of each one, where they answer."""
+    if node is None:
+        return node_sockets(home)
+    path = f"{home}/node{node}.sock"
+    return iter([path] if client.is_there(path) else [])
+
+
+def start_for(home: str, node: int | None) -> None:
+    """Starts a farm where no node runs, unless that is for people to do."""
+    if node not in (None, 1) or client.is_there(f"{home}/coordinator.sock"):
+        raise FarmFault(f"no node {node or ''} runs in {home}".replace("  ", " "))
+    if os.path.exists(f"{home}/joined"):
+        raise FarmFault(f"no node runs in {home}, which is of a farm over a broker: farm node N --broker redis://.. runs one")
+    if os.path.exists(f"{home}/served"):
+        raise FarmFault(f"the farm of {home} was killed: farm up starts it again, or remove {home}/served")
+    os.makedirs(home, mode=0o700, exist_ok=True)
+    with open(f"{home}/starting", "w") as lock:
+        fcntl.flock(lock, fcntl.LOCK_EX)
+        if next(sockets_of(home, node), None) is None:
+            start_farm(home)
+
+
+def ask_running(home: str, node: int | None, what: dict[str, Any]) -> client.Asked | None:
+    """Asks a node, or the first one here that isn't retired. None where none runs."""
+    retired = None
+    for path in sockets_of(home, node):
+        asked = client.ask(path, what | {"signals": True})
+        if not asked.told:
+            return asked
+        retired = asked.told["retired"]
+    if retired and node is None:
+        raise FarmFault(f"every node that runs in {home} was retired: begin one of another number, as farm up with more --nodes does")
+    if retired:
+        raise FarmFault(f"{retired}: name another one with --node, or none")
+    return None
 
 
 def ask_node(home: str, node: int | None, what: dict[str, Any]) -> int:
     """Asks a node, and starts a farm for it where none runs here."""
     for turn in range(5):
-        path = socket_of(home, node)
-        is_up = client.is_there(f"{home}/coordinator.sock")
-        if path is None and is_up and turn < 4:
-            time.sleep(0.3)  # its nodes may be about to stand
-            continue
-        if path is None:
-            if node not in (None, 1) or is_up:
-                raise FarmFault(f"no node {node or ''} runs in {home}".replace("  ", " "))
-            if os.path.exists(f"{home}/joined"):
-                raise FarmFault(f"no node runs in {home}, which is of a farm over a broker: farm node N --broker redis://.. runs one")
-            if os.path.exists(f"{home}/served"):
-                raise FarmFault(f"the farm of {home} was killed: farm up starts it again, or remove {home}/served")
-            os.makedirs(home, mode=0o700, exist_ok=True)
-            with open(f"{home}/starting", "w") as lock:
-                fcntl.flock(lock, fcntl.LOCK_EX)
-                if socket_of(home, node) is None:
-                    start_farm(home)
-            path = f"{home}/node1.sock"
-        try:
-            return client.ask(path, what | {"signals": True}).status
-        except client.NoFarm:
-            time.sleep(0.3)  # it is ending
+        with contextlib.suppress(client.NoFarm):
+            if asked := ask_running(home, node, what):
+                return asked.status
+            if turn == 4 or not client.is_there(f"{home}/coordinator.sock"):
+                start_for(home, node)
+                continue
+        time.sleep(0.3)  # it is ending, or its nodes are about to stand
     raise FarmFault(f"no farm answers in {home}")
 
 

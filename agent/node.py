@@ -15,7 +15,7 @@ from typing import Callable
 
 from agent.caller import LATE, Caller, Patience
 from agent.executions import Executions
-from agent.faults import ClientGone, FarmFault, LifeOver
+from agent.faults import ClientGone, FarmFault, LifeOver, NodeRetired
 from agent.hints import Hints
 from agent.lines import Answer, Talk, line_of
 from agent.needs import Needs
@@ -225,12 +225,15 @@ class NodeAgent:
                     patience.check()
             if epoch != self.talk.epoch:
                 raise LifeOver("the node began a new life")
-            if self.retired:
-                raise FarmFault(f"node {self.node} was retired: nothing is granted to it any more")
+            self.check_retired()
             if not woken and time.monotonic() - self.resent > delay / 2:
                 self.resent = time.monotonic()
                 self.call("resend", epoch)
                 delay = min(delay * 2, 5.0)
+
+    def check_retired(self) -> None:
+        if self.retired:
+            raise NodeRetired(f"node {self.node} was retired for good, and runs nothing any more")
 
     def asked(self, line: str, epoch: int) -> int | None:
         """Makes an ask. None where it can't be made now."""

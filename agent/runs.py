@@ -13,7 +13,7 @@ from typing import Callable
 
 from agent.caller import Caller, Patience
 from agent.executions import Execution
-from agent.faults import ClientGone, FarmFault, LifeOver, UsageFault
+from agent.faults import ClientGone, FarmFault, LifeOver, NodeRetired, UsageFault
 from agent.lines import line_of
 from agent.node import Ending, NodeAgent
 from agent.places import check_apart, path_order, place_of
@@ -74,6 +74,8 @@ class Run:
                 if self.begun:
                     raise
                 status = None  # nothing ran yet: it is asked for in the new life
+            except NodeRetired as fault:
+                raise LifeOver(str(fault)) if self.begun else fault
             if status is not None:
                 return status
             time.sleep(0.05)

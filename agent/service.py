@@ -15,7 +15,7 @@ import time
 import traceback
 from typing import IO, Any, Callable
 
-from agent.faults import BAD_DOCKERFILE, FAULT, FarmFault, sentence
+from agent.faults import BAD_DOCKERFILE, FAULT, FarmFault, NodeRetired, sentence
 
 Handler = Callable[[dict[str, Any], "Connection"], int]
 ENDING = (signal.SIGINT, signal.SIGTERM, signal.SIGHUP, signal.SIGQUIT)
@@ -88,6 +88,9 @@ def handled(handler: Handler, asked: dict[str, Any], connection: Connection) -> 
     """The status of a request; each fault is told in one sentence."""
     try:
         return handler(asked, connection)
+    except NodeRetired as fault:
+        connection.tell({"retired": str(fault)})  # who asked knows whether another node will do
+        return fault.status
     except FarmFault as fault:
         connection.say(("refused: " if fault.status == BAD_DOCKERFILE else "") + str(fault))
         return fault.status

@@ -200,6 +200,8 @@ def _forget_pid(path: str) -> None:
 
 def answer_command(agent: NodeAgent, builds: Builds, wanted: Wanted, asked: dict[str, Any], link: Connection) -> int:
     """A request to a node."""
+    if asked["do"] in ("run", "build"):
+        agent.check_retired()
     if asked["do"] == "run":
         uncounted = LOST if asked["must_commit"] else None
         wants = [want_of(word) for word in asked["folders"]]

@@ -256,7 +256,7 @@ class Nodes(support.FarmTest):
 
     def test_leases(self) -> None:
         """One farm for all of these: each takes a second to start."""
-        parts = [self.withdrawn, self.stopped, self.turns]
+        parts = [self.withdrawn, self.stopped, self.turns, self.retired]
         for part in [self.shared, self.shared_at_once, *parts] if can_have_namespaces() else parts:
             with self.subTest(part.__name__):
                 part()
@@ -281,8 +281,22 @@ class Nodes(support.FarmTest):
         self.write("go", "")
         self.ended(one, 0)
         self.assertIn("one\n", self.ended(two, 0))
+
+    def retired(self) -> None:
+        """What names no node goes to one that isn't retired. A command that ran meanwhile isn't made again elsewhere."""
+        held = self.run_on(1, "echo ran >> runs; touch in; until [ -e go ]; do sleep 0.05; done", folder="locked:d")
+        self.wait_for(self.path("in"))
+        self.asked("retire", "1")
+        plain = self.farm("run", "--folder", "locked:e=w", "--", "echo", "plain")
+        self.assertEqual(plain.stdout, "plain\n")
+        self.assertNotIn("retired", plain.stderr)
+        self.assertIn("node 1 was retired for good, and runs nothing any more: name another one", self.ended(self.run_on(1, "true"), 70))
+        self.write("go", "")
+        self.assertIn("isn't known to count", self.ended(held, 75))
+        self.assertEqual(self.read("runs"), "ran\n")
         self.asked("retire", "2")
-        self.assertIn("was retired", self.ended(self.run_on(2, "true"), 70))
+        for _ in range(2):
+            self.assertIn("every node that runs in", self.farm("run", "--", "true", status=70).stderr)
 
     def withdrawn(self) -> None:
         rows: list[tuple[list[str], int]] = [([], 0), (["--must-commit"], 75)]
