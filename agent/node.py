@@ -308,7 +308,7 @@ class NodeAgent:
         if note != f"begun {ticket}":
             raise FarmFault(f"it can't begin: {note.removeprefix('refused ')}")
 
-    def ending(self, ask: int, ticket: int, epoch: int, caller: Caller) -> Ending:
+    def ending(self, ask: int, ticket: int, epoch: int, caller: Caller | None) -> Ending:
         """Waits for what came of a commit. Its versions are in the note that it came with, which another thread may be about to hear."""
         words: list[str] = []
         late = 0.0

@@ -17,7 +17,7 @@ from agent.faults import ClientGone, FarmFault, LifeOver, NodeRetired, UsageFaul
 from agent.lines import line_of
 from agent.node import Ending, NodeAgent
 from agent.places import check_apart, path_order, place_of
-from agent.shared import Tenure
+from agent.shared import Closed, Tenure
 from agent.tools import LOOK, need
 from agent.words import MOST_FOLDERS, Grant, Slot, Want
 
@@ -84,7 +84,7 @@ class Run:
     def _try(self) -> int | None:
         """One run. None where a SHARED folder was recalled before the ask: then all is to be done again."""
         tenures: dict[str, Tenure] = {}
-        lost = False
+        ends: list[Closed] = []
         try:
             for want in sorted((w for w in self.job.wants if w.is_shared), key=lambda w: w.folder):
                 tenures[want.folder] = self._enter(want)  # by rising name: no two nodes wait for each other
@@ -93,10 +93,11 @@ class Run:
             status = None if ask is None else self._run_asked(ask, tenures)
         finally:
             for folder, tenure in tenures.items():
-                closed = self.agent.shared.leave(folder, tenure, self.caller)
-                lost = lost or closed.is_lost
-                self.caller.say(closed.said)
-        return self.job.lost_status or 0 if lost and status == 0 else status
+                ends.append(self.agent.shared.leave(folder, tenure, self.caller))
+                self.caller.say(ends[-1].said)
+        if status == 0 and any(closed.is_left for closed in ends):
+            raise ClientGone("nobody waits for it any more")
+        return self.job.lost_status or 0 if status == 0 and any(closed.is_lost for closed in ends) else status
 
     def _enter(self, want: Want) -> Tenure:
         def prepare(tenure: Tenure) -> None:
@@ -175,7 +176,7 @@ class Run:
             patience.say(why)
             patience.check()
 
-        return self.agent.places.rooms.file(self.agent.places.keep(self.agent.store, self.paths[slot.folder], away)[0])
+        return self.agent.places.rooms.file(self.agent.places.keep(self.agent.store, self.paths[slot.folder], away, patience.check)[0])
 
     def _command(self, ticket: int, tenures: dict[str, Tenure], binds: list[tuple[str, str, bool]]) -> int:
         agent, job = self.agent, self.job

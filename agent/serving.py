@@ -55,6 +55,10 @@ class Served:
     nodes: list[NodeAgent] = field(default_factory=list)
     services: list[Service] = field(default_factory=list)
 
+    def is_busy(self) -> bool:
+        """Whether somebody waits for something here, or a folder is open that has to be closed yet."""
+        return any(service.busy for service in self.services) or any(node.shared.tenures for node in self.nodes)
+
     def stop(self) -> None:
         for service in self.services:
             service.close()
@@ -172,14 +176,11 @@ def serve(wanted: Wanted) -> int:
         open(mark, "w").close()  # it stands until a farm that people started has ended well: till then no command starts another in its place
     print("up", flush=True)
     while not over.wait(0.5):
-        used = max(time.monotonic() if service.busy else service.used for service in served.services)
-        if wanted.while_used and time.monotonic() - used > IDLE:
+        if wanted.while_used and not served.is_busy() and time.monotonic() - max(service.used for service in served.services) > IDLE:
             for service in served.services:
                 service.close()
-            over.wait(0.2)
-            if not any(service.busy for service in served.services):
-                break
-            while any(service.busy for service in served.services) and not over.wait(0.2):
+            over.wait(0.2)  # who asked just now is answered yet
+            while served.is_busy() and not over.wait(0.2):
                 pass
             break
     served.stop()

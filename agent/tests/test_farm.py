@@ -129,13 +129,15 @@ class Alone(support.FarmTest):
         os.rename(self.path("chunks"), f"{self.home}/contents/chunks")
 
     def test_left_early(self) -> None:
-        """A command whose caller goes while its folder is filled doesn't begin, and isn't waited for. One that waits for a path is told."""
-        self.write("bin/casync", f'#!/bin/sh\n[ $1 = make ] || {{ touch {self.path("filling")}; exec sleep 300; }}\nexec {shutil.which("casync")} "$@"\n')
+        """A command whose caller goes while its folder is filled doesn't begin, and isn't waited for, nor is what one leaves. One that waits
+        for a path is told."""
+        self.write("bin/casync", f'#!/bin/sh\n[ $1 = make ] && ! [ -e {self.path("slow")} ] || {{ touch {self.path("casync")}; exec sleep 300; }}\n'
+                   f'exec {shutil.which("casync")} "$@"\n')
         os.chmod(self.path("bin/casync"), 0o755)
         self.env["PATH"] = f"{self.path('bin')}:{self.env['PATH']}"
         self.farm("run", "--folder", "locked:c=w", "--", "touch", "w/f")
         run = self.begin("run", "--folder", "locked:c=v", "--", "touch", "ran")
-        self.wait_for(self.path("filling"))
+        self.wait_for(self.path("casync"))
         other = self.begin("run", "--folder", "locked:d=v/sub", "--", "true")
         self.hear(other, f"waiting for {os.path.realpath(self.room)}/v/sub: another command")
         run.send_signal(signal.SIGINT)
@@ -143,6 +145,12 @@ class Alone(support.FarmTest):
         self.assertEqual((run.returncode, os.path.exists(self.path("ran"))), (75, False))
         other.communicate(timeout=support.PATIENCE)
         self.assertEqual(other.returncode, 0)
+        os.unlink(self.path("casync"))
+        run = self.begin("run", "--folder", "locked:e=u", "--", "touch", "u/f", "slow")
+        self.wait_for(self.path("casync"))
+        run.send_signal(signal.SIGINT)
+        self.assertIn("nobody waits", run.communicate(timeout=60)[1])
+        self.assertIn("no version", self.asked("log", "locked:e", status=70))
 
     def test_wrong_words(self) -> None:
         rows = [(["run", "--folder", "ccache=w", "--", "true"], 64, "is no folder"), (["run"], 64, "required"), (["what"], 64, "invalid choice"),
@@ -418,19 +426,29 @@ class Apart(support.FarmTest):
             self.end()
 
     def test_store_away(self) -> None:
-        """Who waits for a store that is away is told, and may leave."""
-        with support.redis_server(self.room, "--appendonly", "yes", "--appendfsync", "always") as url:
+        """Who waits for a store that is away is told, and may leave. What was left in a SHARED folder, maybe by others too, is committed
+        once the store is there again."""
+        keeps = ("--appendonly", "yes", "--appendfsync", "always")
+        rows = [("locked:c", signal.SIGINT), ("shared:c", signal.SIGINT), ("shared:d", signal.SIGHUP)][: 3 if can_have_namespaces() else 1]
+        with support.redis_server(self.room, *keeps) as url:
             self.up("coordinator", "--broker", url)
             os.makedirs(self.path("n1"))
             shutil.copy2(f"{self.home}/key", self.path("n1/key"))
             self.up("node", "1", "--home", self.path("n1"), "--broker", url)
-            run = self.begin("run", "--home", self.path("n1"), "--folder", "locked:c=w", "--", "sh", "-c", "echo x > w/f; touch in; until [ -e go ]; do sleep 0.05; done")
-            self.wait_for(self.path("in"))
+            script = "echo x > $0/f; touch $0.in; until [ -e go ]; do sleep 0.05; done"
+            runs = [self.begin("run", "--home", self.path("n1"), "--folder", f"{folder}={folder}", "--", "sh", "-c", script, folder) for folder, _ in rows]
+            for folder, _ in rows:
+                self.wait_for(self.path(f"{folder}.in"))
         self.write("go", "")
-        self.hear(run, "waiting for the store over Redis, which takes no contents: .*refused")
-        run.send_signal(signal.SIGINT)
-        self.assertIn("nobody waits", run.communicate(timeout=support.PATIENCE)[1])
-        self.assertEqual(run.returncode, 75)
+        for (folder, number), run in zip(rows, runs):
+            self.hear(run, "waiting for the store over Redis, which takes no contents: .*refused")
+            run.send_signal(number)
+            self.assertIn("nobody waits", run.communicate(timeout=60)[1], folder)
+            self.assertEqual(run.returncode, 75, folder)
+        with support.redis_server(self.room, *keeps, port=int(url.rpartition(":")[2])):
+            for folder, _ in rows[1:]:
+                support.until(lambda: f"{folder} is at version 1" in self.asked("status"))
+            self.assertIn("locked:c has no version", self.asked("log", "locked:c", status=70))
 
     def spoilt(self) -> None:
         """What is spoilt in a node's own folder comes from the store."""
@@ -604,7 +622,7 @@ class Unanswered(support.RoomTest):
             agent.talk.start()
             self.addCleanup(agent.stop)
             threading.Thread(target=agent.serve, daemon=True).start()
-        for folder, said, ended in (("locked:c", "lost [0-9]+: what the command left isn't known to count", ClientGone), ("shared:c", "lost shared:c", int)):
+        for folder, said in (("locked:c", "lost [0-9]+: what the command left isn't known to count"), ("shared:c", "lost shared:c")):
             path, caller, ends = self.path(folder), support.Heard(), list[object]()
             script = f"echo x > {path}/f; touch {path}.ran; until [ -e {path}.go ]; do sleep 0.05; done"
             run = Run(node, Job(["sh", "-c", script], self.room, {"PATH": os.environ["PATH"]}, [Want(folder, path)]), caller)
@@ -627,7 +645,7 @@ class Unanswered(support.RoomTest):
                 caller.gone = True
                 thread.join(support.PATIENCE)
                 self.assertRegex(caller.said[-1], said)
-                self.assertIsInstance(ends[0], ended)
+                self.assertIsInstance(ends[0], ClientGone)
                 self.assertEqual(coordinator.versions(folder), [])
                 transport.is_cut = False
                 support.until(lambda: coordinator.versions(folder))
