@@ -376,10 +376,12 @@ class Nodes(support.FarmTest):
         self.assertIn("in use by others here", second.stderr)
         other = self.run_on(2, "cat w2/f", folder="shared:s")  # it waits until node 1 has closed the folder
         self.hear(other, "waiting for shared:s: node 1 has shared:s")
+        late = self.begin("run", "--node", "1", "--folder", "shared:s=w4", "--", "true")
+        self.hear(late, "waiting for shared:s: another node wants it, so those who have it here end first")
         self.write("go", "")
         self.assertIn("committed", self.ended(first, 0))
         self.assertIn("a\nb\n", self.ended(other, 0))
-
+        self.ended(late, 0)
 
     def shared_at_once(self) -> None:
         """Nodes that want one SHARED folder at once all get it, each in its turn."""
