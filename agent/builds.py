@@ -4,6 +4,7 @@ Owes the filter what a run owes it (`runs`), and that nothing is leased, and not
 """
 from __future__ import annotations
 
+import contextlib
 import os
 import tempfile
 import threading
@@ -168,6 +169,10 @@ class Build:
         run = Run(self.builds.agent, job, self.caller)
         try:
             status = run.run()
+        except (FarmFault, OSError):
+            with contextlib.suppress(FileNotFoundError):  # else it wasn't built
+                self.caller.say(f"image {self.builds.builder.built(image)} is built, and isn't tagged")
+            raise
         finally:
             for path in run.paths.values():
                 self.builds.agent.places.forget(path)

@@ -40,6 +40,9 @@ class Builds(support.FarmTest):
     @unittest.skipUnless(support.is_root and can_have_namespaces(), "buildah's chroot isolation is tried as root, with namespaces")
     def test_build(self) -> None:
         shutil.copy(shutil.which("busybox") or "", self.path("context/busybox"))
+        self.write("bin/casync", f'#!/bin/sh\n[ $1 = make ] && [ -e {self.path("full")} ] && exit 9\nexec {shutil.which("casync")} "$@"\n')
+        os.chmod(self.path("bin/casync"), 0o755)
+        self.env["PATH"] = f"{self.path('bin')}:{self.env['PATH']}"
         first = self.farm("build", "--build-arg", "WHO=one", "-t", "app", "context")
         self.assertIn("is tagged app", first.stderr)
         self.assertIn("committed 2 locked:../../x version 1", first.stderr)
@@ -57,6 +60,9 @@ class Builds(support.FarmTest):
         names = Buildah(f"{self.home}/node1/containers")._images("--all").values()
         self.assertEqual(sorted(names, key=len), [set(), {"localhost/app:latest"}])  # the one without a name was built without one
         self.tags()
+        self.write("full", "")
+        unkept = self.farm("build", "--build-arg", "WHO=five", "-t", "app", "context", status=70).stderr
+        self.assertRegex(unkept, "farm: image sha256:[0-9a-f]{64} is built, and isn't tagged\nfarm: casync make: it ended with status 9\n")
 
     def tags(self) -> None:
         """buildah takes the names that are taken here, and no other ones."""
