@@ -117,6 +117,7 @@ class Service:
             os.unlink(path)
         self.server = socket.socket(socket.AF_UNIX)
         self.server.bind(path)
+        self.own = os.lstat(path)
         os.chmod(path, 0o600)
         self.server.listen(64)
 
@@ -144,8 +145,7 @@ class Service:
 
     def close(self) -> None:
         self.closed = True
-        try:
-            os.unlink(self.path)
-        except OSError:
-            pass
+        with contextlib.suppress(OSError):
+            if os.path.samestat(os.lstat(self.path), self.own):  # else somebody removed the home, and the next farm there has begun
+                os.unlink(self.path)
         self.server.close()

@@ -184,8 +184,9 @@ def serve(wanted: Wanted) -> int:
                 pass
             break
     served.stop()
-    if os.path.exists(mark):
-        os.unlink(mark)
+    if not wanted.while_used:
+        with contextlib.suppress(FileNotFoundError):
+            os.unlink(mark)
     _forget_pid(f"{wanted.home}/pid")
     return 0
 

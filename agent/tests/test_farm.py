@@ -571,6 +571,19 @@ class Handled(unittest.TestCase):
             self.assertEqual(heard.getvalue()[:9], log)
 
 
+class Services(support.RoomTest):
+    def test_next(self) -> None:
+        """Who removes a home and begins anew there isn't disturbed by the end of the farm that was there."""
+        os.makedirs(self.path("home"))
+        one = Service(self.path("home/x.sock"), mock.Mock())
+        shutil.rmtree(self.path("home"))
+        os.makedirs(self.path("home"))
+        other = Service(self.path("home/x.sock"), mock.Mock())
+        for service, is_there in ((one, True), (other, False)):
+            service.close()
+            self.assertEqual(os.path.exists(service.path), is_there)
+
+
 class Waits(unittest.TestCase):
     def test_told(self) -> None:
         """What is waited for is told when it changes, and else ever less often: 15 minutes take few lines."""
