@@ -153,8 +153,10 @@ class Alone(support.FarmTest):
         self.assertIn("no version", self.asked("log", "locked:e", status=70))
 
     def test_wrong_words(self) -> None:
-        rows = [(["run", "--folder", "ccache=w", "--", "true"], 64, "is no folder"), (["run"], 64, "required"), (["what"], 64, "invalid choice"),
-                (["status"], 70, "farm up starts one"), (["withdraw", "x"], 64, "invalid int"), (["coordinator", "--broker", "10.0.0.1"], 64, "redis://HOST"),
+        rows = [(["run", "--folder", "ccache=w", "--", "true"], 64, "is no folder"), (["run"], 64, "wants a command"), (["run", "--"], 64, "wants a command"), (["what"], 64, "invalid choice"),
+                (["status"], 70, "farm up starts one"), (["withdraw", "x"], 64, "invalid ticket"), (["withdraw", "0"], 64, "invalid ticket"),
+                (["retire", "0"], 64, "the nodes 1 to 1,024"), (["up", "--nodes", "1025"], 64, "not 1025"), (["run", "--node", "0", "true"], 64, "not 0"),
+                (["coordinator", "--broker", "10.0.0.1"], 64, "redis://HOST"),
                 (["run", "--home", self.path("my home"), "--", "true"], 64, "has a space"),
                 (["node", "9", "--broker", "redis://127.0.0.1:1"], 64, "no node 9 of 3"), (["gc", "--keep", "0"], 64, "at least 1"),
                 (["run", "--wait", "nan", "--", "true"], 64, "invalid seconds value: 'nan'"), (["run", "--wait", "-1", "--", "true"], 64, "'-1'"),
@@ -231,10 +233,11 @@ class Alone(support.FarmTest):
         self.assertFalse(os.path.exists(self.path("got")))
 
     def test_program_from_here(self) -> None:
-        """The farm's program may be named from the folder in which a command is called."""
+        """The farm's program may be named from the folder in which a command is called. What follows a command's name is its own."""
         os.symlink(self.env["FARMCTL"], self.path("program"))
         self.env["FARMCTL"] = "./program"
-        self.assertEqual(self.farm("run", "--", "echo", "ran").stdout, "ran\n")
+        for words, said in ((["--", "echo", "--", "ran"], "-- ran\n"), (["--wait", "9", "echo", "--wait", "0", "-x"], "--wait 0 -x\n")):
+            self.assertEqual(self.farm("run", *words).stdout, said)
 
     def test_missing_program(self) -> None:
         for program, said in (("/nowhere/farmctl", "isn't there"), ("/bin/false", "doesn't start as the coordinator")):
