@@ -15,10 +15,11 @@ import time
 import traceback
 from typing import IO, Any, Callable
 
-from agent.faults import BAD_DOCKERFILE, FAULT, FarmFault, NodeRetired, sentence
+from agent.faults import BAD_DOCKERFILE, FAULT, LOST, FarmFault, NodeRetired, sentence
 
 Handler = Callable[[dict[str, Any], "Connection"], int]
 ENDING = (signal.SIGINT, signal.SIGTERM, signal.SIGHUP, signal.SIGQUIT)
+HELD_MOST = 10.0  # seconds for which a caller that was told to end waits for what holds its request up, as a folder that can't be reached
 
 
 class Connection:
@@ -29,6 +30,7 @@ class Connection:
         self.gone = False
         self.signalled: Callable[[int], None] | None = None
         self.lock = threading.Lock()
+        self.over = threading.Event()
 
     def _write(self, what: dict[str, Any]) -> None:
         try:
@@ -44,10 +46,11 @@ class Connection:
         self._write({"told": what})
 
     def exit(self, status: int) -> None:
+        self.over.set()
         self._write({"exit": status})
 
     def listen(self, reader: IO[bytes]) -> None:
-        """Hears the command's signals, and whether it is still there."""
+        """Hears the command's signals, and whether it is still there. One that was told to end isn't held up for ever."""
         with contextlib.suppress(OSError):  # it was killed before it had read all
             for raw in reader:
                 try:
@@ -59,6 +62,9 @@ class Connection:
                 elif number in ENDING:  # no command runs that could hear it: it is as if its caller had gone
                     break
         self.gone = True
+        if not self.over.wait(HELD_MOST):
+            self.say("something that doesn't answer holds it up: nobody waits for it any more, and what it has is given back once it can be")
+            self.exit(LOST)
 
 
 def answer(link: socket.socket, handler: Handler) -> None:

@@ -8,6 +8,7 @@ import os
 import random
 import shutil
 import signal
+import socket
 import subprocess
 import sys
 import threading
@@ -575,6 +576,23 @@ class Handled(unittest.TestCase):
 
 
 class Services(support.RoomTest):
+    def test_held_up(self) -> None:
+        """Who is told to end ends, though what the agent calls for it never answers."""
+        ends = threading.Event()
+        self.addCleanup(ends.set)
+        service = Service(self.path("x.sock"), lambda *_: int(ends.wait()))
+        self.addCleanup(service.close)
+        threading.Thread(target=service.serve, daemon=True).start()
+        with mock.patch("agent.service.HELD_MOST", 0.2), socket.socket(socket.AF_UNIX) as link:
+            link.connect(service.path)
+            link.settimeout(30)
+            socket.send_fds(link, [b"f"], [0, 1, 2])
+            link.sendall(b'{}\n{"signal": 15}\n')
+            with link.makefile("rb") as reader:
+                heard, said, ended = (json.loads(reader.readline()) for _ in range(3))
+            self.assertIn("doesn't answer", said["say"])
+            self.assertEqual((heard, ended), ({"say": ""}, {"exit": 75}))
+
     def test_next(self) -> None:
         """Who removes a home and begins anew there isn't disturbed by the end of the farm that was there."""
         os.makedirs(self.path("home"))
