@@ -200,7 +200,7 @@ def start_farm(home: str) -> None:
         with open(f"{home}/farm.log", "rb") as said:
             said.seek(begun)
             last = said.read().decode(errors="replace").strip().splitlines()[-1:]
-        fault = FarmFault(last[0].removeprefix("farm: ") if last else "the farm doesn't start")
+        fault = FarmFault(last[0].removeprefix("farm: ") if last else f"the farm doesn't start, and {home}/farm.log doesn't say why")
         ended = started.wait()
         fault.status = ended if ended in (USAGE, MISSING) else fault.status
         raise fault
