@@ -52,6 +52,8 @@ class BuildAsked:
             check_tag(self.tag)
 
     def dockerfile(self) -> str:
+        if not os.path.isdir(self.context):
+            raise Refused(f"{self.context} is no folder of this machine, as a build's context has to be")
         names = [f"{self.context}/Containerfile", f"{self.context}/Dockerfile"]
         if self.file:
             names = [os.path.join(self.cwd, self.file), os.path.join(self.context, self.file)]

@@ -12,7 +12,7 @@ from dataclasses import dataclass
 from typing import TYPE_CHECKING, Callable, Iterable
 
 from agent.caller import LATE, Caller, Patience
-from agent.faults import ClientGone, FarmFault, LifeOver
+from agent.faults import ClientGone, FarmFault, LifeOver, sentence
 from agent.lines import line_of
 from agent.tools import LOOK
 from agent.words import Slot, short_name
@@ -174,7 +174,7 @@ class SharedFolders:
         except Exception as fault:  # the last version stands
             with contextlib.suppress(FarmFault, OSError):
                 self.agent.give_back(tenure.ticket, tenure.epoch)
-            return Closed(f"lost {folder}: {fault}", is_lost=True)
+            return Closed(f"lost {folder}: {sentence(fault) if isinstance(fault, OSError) else fault}", is_lost=True)
         finally:
             with self.changed:
                 if self.tenures.get(folder) is tenure:

@@ -161,6 +161,8 @@ class Refused(support.FarmTest):
                 (["--target", "nowhere"], "refused: no stage is called nowhere")]
         for words, said in rows:
             self.assertRegex(self.asked("build", *words, self.path("context"), status=65), said)
+        for context in (self.path("nowhere"), "https://github.com/x/y", self.path("bad")):
+            self.assertIn("is no folder of this machine", self.asked("build", context, status=65))
         for tag in BAD_TAGS:
             self.assertIn("can't be an image's name", self.asked("build", f"--tag={tag}", self.path("context"), status=64), tag)
         for tag in GOOD_TAGS:
