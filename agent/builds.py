@@ -79,15 +79,23 @@ class Builds:
     def enter(self) -> str:
         """A room for one more build."""
         with self.lock:
-            if self.under_way == 0 and self.dirty:
-                if os.path.isdir(self.home):
-                    self.agent.places.trash.take(self.home)
-                    self.agent.places.forget_within(self.home)
-                self.builder.sweep()
-                self.dirty = False
+            self._sweep()
             self.under_way += 1
             os.makedirs(self.home, exist_ok=True)
             return tempfile.mkdtemp(prefix="b", dir=self.home)
+
+    def sweep(self) -> None:
+        """Removes what killed builds left, unless one is under way."""
+        with self.lock:
+            self._sweep()
+
+    def _sweep(self) -> None:
+        if self.under_way == 0 and self.dirty:
+            if os.path.isdir(self.home):
+                self.agent.places.trash.take(self.home)
+                self.agent.places.forget_within(self.home)
+            self.builder.sweep()
+            self.dirty = False
 
     def leave(self, room: str, ended_well: bool) -> list[str]:
         """What is to be told of images that lost their names. They go when no build is under way that may begin with them."""

@@ -208,7 +208,7 @@ class Run:
         while True:
             status = execution.wait(LOOK)
             if self.epoch != self.agent.talk.epoch or execution.was_ended and stopped is None:
-                raise LifeOver("the node began a new life")
+                raise LifeOver("the node began a new life, or ends")
             if status is not None:
                 return status
             if self.caller.gone:

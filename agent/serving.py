@@ -221,6 +221,7 @@ def answer_command(agent: NodeAgent, builds: Builds, wanted: Wanted, asked: dict
     if asked["do"] == "forget":
         agent.places.forget_gone()
         link.tell(forget(agent, set(asked["needed"]), float(asked["grace"])))
+        builds.sweep()
     elif asked["do"] == "needed":
         link.tell(sorted(agent.needed(int(asked["keep"]))))
     elif asked["do"] == "store":

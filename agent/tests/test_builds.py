@@ -1,6 +1,7 @@
 """Builds of Dockerfiles, with buildah; and what is refused before it is called."""
 from __future__ import annotations
 
+import json
 import os
 import shutil
 import signal
@@ -9,7 +10,7 @@ import subprocess
 import unittest
 from unittest import mock
 
-from agent.builder import Buildah, check_tag
+from agent.builder import Buildah, Image, check_tag
 from agent.executions import can_have_namespaces
 from agent.faults import FarmFault
 
@@ -117,6 +118,26 @@ class Unnamed(support.RoomTest):
         kept = {below, first, self.tagged("app")}
         self.assertRegex(" ".join(self.builder.drop_unnamed()), f"{first} buildah would remove {below}")
         self.assertEqual((self.builder.drop_unnamed(), self.left()), ([], kept))
+
+    def test_killed(self) -> None:
+        """What a killed build made of its stages goes with its containers. What it began with stays, also where that has no name."""
+        user = self.image()
+        self.write("f", "")
+        with socket.create_server(("127.0.0.1", 0)) as server:
+            add = f"ADD http://127.0.0.1:{server.getsockname()[1]}/x /x\n"  # it is asked, and never answers
+            for text in ("FROM scratch AS a\nCOPY f /f\nFROM a AS b\nCOPY f /g\nFROM b\n", f"FROM {user.removeprefix('sha256:')}\n"):
+                words, env = self.builder.command(Image(self.room, self.write("Dockerfile", text + add), self.room))
+                build = subprocess.Popen(words, env=env, stdout=subprocess.DEVNULL, stderr=subprocess.DEVNULL)
+                server.settimeout(support.PATIENCE)
+                link, _ = server.accept()
+                build.kill()
+                build.wait()
+                link.close()
+        subprocess.run(["buildah", *self.builder.storage, "from", "--name", "user", user], check=True, capture_output=True)
+        self.assertEqual(len(self.left()), 3)
+        self.builder.sweep()
+        self.assertEqual((self.builder.drop_unnamed(), self.left()), ([], {user}))
+        self.assertEqual([each["containername"] for each in json.loads(self.builder._said("containers", "--json"))], ["user"])
 
     def test_not_cleaned(self) -> None:
         """That images can't be removed is told, and they go another time."""
