@@ -63,7 +63,7 @@ class Connection:
                     break
         self.gone = True
         if not self.over.wait(HELD_MOST):
-            self.say("something that doesn't answer holds it up: nobody waits for it any more, and what it has is given back once it can be")
+            self.say("something that doesn't answer holds it up, and nobody waits for it any more: what comes of it isn't known")
             self.exit(LOST)
 
 
