@@ -15,7 +15,7 @@ from typing import Callable
 
 from agent.caller import LATE, Caller, Patience
 from agent.executions import Executions
-from agent.faults import ClientGone, FarmFault, LifeOver, NodeRetired
+from agent.faults import ClientGone, FarmFault, LifeOver, NodeRetired, tell
 from agent.hints import Hints
 from agent.lines import Answer, Talk, line_of
 from agent.needs import Needs
@@ -186,7 +186,7 @@ class NodeAgent:
         elif words[0] == "gone" and int(words[1]) == self.node:
             self.retired = True
         elif words[0] == "outdated" and int(words[1]) == self.node and int(words[2]) > self.life:
-            self.log(f"a later life of this node, {words[2]}, was heard: a new one begins here")
+            tell(f"a later life of node {self.node} was heard, so a new one begins here: does another agent run as node {self.node}?")
             self.talk.restart(self.talk.epoch)
         elif words[0] == "lacks":
             threading.Thread(target=self._offer, args=(int(words[1]), words[2]), daemon=True).start()

@@ -549,7 +549,7 @@ for line in sys.stdin:
 
 class StoreFault(support.RoomTest):
     def test_next_life(self) -> None:
-        """A node whose disk failed it begins a new life."""
+        """A node whose disk failed it begins a new life, and so does one of which a later life was heard, which is told."""
         program = self.write("program", FAULTY)
         os.chmod(program, 0o755)
         agent = NodeAgent(1, 1, Setup(program, self.room, make_key(self.path("key")), FolderStore(self.path("contents")), LocalTransport(), lambda text: None))
@@ -558,8 +558,12 @@ class StoreFault(support.RoomTest):
         with self.assertRaises(LifeOver):
             agent.call("resend", 1)
         self.assertEqual((agent.talk.epoch, agent.call("resend", 2).note), (2, "resent"))
+        later = agent.hints.seal(f"outdated 1 {agent.life + 1}")
+        with contextlib.redirect_stderr(io.StringIO()) as heard:
+            agent.receive(later)
+        self.assertEqual((agent.talk.epoch, "does another agent run as node 1?" in heard.getvalue()), (3, True))
         with self.assertRaises(WaitOver), mock.patch.object(agent, "call", wraps=agent.call) as call:
-            agent.wait(2, Patience(None, 2.3), lambda: False)
+            agent.wait(3, Patience(None, 2.3), lambda: False)
         self.assertLessEqual(call.call_count, 3)  # after 0.3, 0.9 and 2.1 seconds, and not after 4.5
 
 
