@@ -15,7 +15,7 @@ from typing import Callable
 
 from agent.caller import LATE, Caller, Patience
 from agent.executions import Executions
-from agent.faults import ClientGone, FarmFault, LifeOver, NodeRetired, tell
+from agent.faults import ClientGone, FarmFault, LifeOver, NodeRetired, WaitOver, tell
 from agent.hints import Hints
 from agent.lines import Answer, Talk, line_of
 from agent.needs import Needs
@@ -265,8 +265,10 @@ class NodeAgent:
             self.wait(epoch, patience, is_decided)
         except LifeOver:
             raise  # the ask ended with its life
-        except BaseException:
+        except BaseException as fault:
             self._leave(ask, epoch)
+            if isinstance(fault, WaitOver) and ask not in self.holders:
+                raise WaitOver(f"{fault}: {UNHEARD}") from None
             raise
         finally:
             self.holders.pop(ask, None)

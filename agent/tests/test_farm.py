@@ -689,6 +689,9 @@ class Unanswered(support.RoomTest):
                 self.assertEqual(coordinator.versions(folder), [])
                 transport.is_cut = False
                 support.until(lambda: coordinator.versions(folder))
+        transport.is_cut = True
+        with self.assertRaisesRegex(WaitOver, "within 0 seconds: the coordinator hasn't answered yet"):
+            Run(node, Job(["true"], self.room, {}, [], wait=0), support.Heard()).run()
 
 
 @unittest.skipUnless(support.has("casync"), support.needs("casync"))
