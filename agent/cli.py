@@ -253,11 +253,11 @@ def ask_running(home: str, node: int | None, what: dict[str, Any]) -> client.Ask
 
 def ask_node(home: str, node: int | None, what: dict[str, Any]) -> int:
     """Asks a node, and starts a farm for it where none runs here."""
-    for turn in range(5):
+    for turn in range(6):
         with contextlib.suppress(client.NoFarm):
             if asked := ask_running(home, node, what):
                 return asked.status
-            if turn == 4 or not client.is_there(f"{home}/coordinator.sock"):
+            if turn > 3 or not client.is_there(f"{home}/coordinator.sock"):
                 start_for(home, node)
                 continue
         time.sleep(0.3)  # it is ending, or its nodes are about to stand

@@ -100,12 +100,27 @@ def join(wanted: Wanted) -> None:
             file.write(wanted.broker.rpartition("@")[2].removeprefix("redis://") + "\n")
 
 
+def check_contents(folder: str, hints: Hints) -> None:
+    """Refuses a folder of contents that another farm has: each would forget what the other one needs."""
+    mark = f"{folder}/farm"
+    os.makedirs(folder, exist_ok=True)
+    try:
+        with open(mark, "x") as file:
+            file.write(hints.name())
+    except FileExistsError:
+        with open(mark) as file:
+            if file.read() not in ("", hints.name()):
+                raise UsageFault(f"{folder} has the contents of another farm: name another --contents. If that farm is gone, remove {mark}") from None
+
+
 def setup_of(wanted: Wanted) -> Setup:
     check(wanted)
     program = farmctl()
     os.makedirs(wanted.home, mode=0o700, exist_ok=True)
     key = make_key(f"{wanted.home}/key")
     hints = Hints(key)
+    if wanted.contents:
+        check_contents(wanted.contents, hints)
     transport: Transport = LocalTransport()
     if wanted.broker:
         transport = RedisTransport(wanted.broker, farm_name(hints))

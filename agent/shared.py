@@ -106,6 +106,7 @@ class SharedFolders:
         return self._enter_first(folder, epoch, patience, prepare)
 
     def _enter_first(self, folder: str, epoch: int, patience: Patience, prepare: Callable[[Tenure], None]) -> Tenure:
+        """Opens a folder, and counts in the execution for which it is opened."""
         try:
             opened = self._open(folder, epoch, patience, prepare)
             with self.changed:

@@ -91,6 +91,7 @@ class Alone(support.FarmTest):
             self.farm("run", "--home", "sub/home", "--folder", f"locked:c={path}", "--", "true")
         self.assertIn("version 3 ticket 3 ", self.asked("log", "--home", self.path("sub/home"), "locked:c"))  # no lease was asked for before
         self.assertFalse(os.path.exists(self.path("ran")))
+        self.assertIn("the contents of another farm", self.asked("up", "--home", self.path("other"), "--contents", self.path("kept"), status=64))
 
     def test_starting(self) -> None:
         """A farm whose nodes are about to stand is waited for. A log that has become long is put aside."""
