@@ -174,7 +174,7 @@ class SharedFolders:
             return left(folder)
         except Exception as fault:  # the last version stands
             with contextlib.suppress(FarmFault, OSError):
-                self.agent.give_back(tenure.ticket, tenure.epoch)
+                self._given_up(tenure, f"abort {tenure.ticket}")
             return Closed(f"lost {folder}: {sentence(fault) if isinstance(fault, OSError) else fault}", is_lost=True)
         finally:
             with self.changed:
@@ -187,20 +187,26 @@ class SharedFolders:
     def _commit(self, folder: str, tenure: Tenure, patience: Patience) -> Closed:
         agent, slot = self.agent, tenure.slot
         if not tenure.used:
-            agent.give_back(tenure.ticket, tenure.epoch)
+            self._given_up(tenure, f"abort {tenure.ticket}")
             return Closed(f"{folder} is given back as it was")
         index, _ = agent.places.keep(agent.store, tenure.path, patience.say)
-        note = ""
         with agent.places.rooms.file(index) as file:
-
-            def is_finished() -> bool:  # an execution is over for the filter only when its own commit was sent
-                nonlocal note
-                note = agent.call(line_of("finish", str(tenure.ticket), f"{slot.name}={file}"), tenure.epoch).note
-                return note != "refused TenureInUse"
-
-            agent.wait(tenure.epoch, Patience(None, None), is_finished)
+            note = self._given_up(tenure, line_of("finish", str(tenure.ticket), f"{slot.name}={file}"))
         if note != f"finished {tenure.ticket}":
             raise FarmFault(note)
         ending = agent.ending(tenure.ask, tenure.ticket, tenure.epoch, patience.caller)
         said = [f"{name} version {number}" for name, (number, _) in ending.versions.items()]
         return Closed(f"{ending.how} {tenure.ticket} {' '.join(said) or folder}", is_lost=ending.how != "committed")
+
+    def _given_up(self, tenure: Tenure, line: str) -> str:
+        """What the filter notes of the line that ends a tenure. An execution is over for it only when its own ask is, which for one that its
+        caller left may come late."""
+        note = ""
+
+        def is_over() -> bool:
+            nonlocal note
+            note = self.agent.call(line, tenure.epoch).note
+            return note not in ("refused TenureInUse", "refused OutOfMemory")
+
+        self.agent.wait(tenure.epoch, Patience(None, None), is_over)
+        return note

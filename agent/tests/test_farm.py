@@ -21,13 +21,15 @@ from agent.coordinator import CoordinatorAgent
 from agent.executions import can_have_namespaces
 from agent.faults import ClientGone, FarmFault, LifeOver, WaitOver
 from agent.hints import make_key
+from agent.lines import Answer
 from agent.node import NodeAgent, Setup
 from agent.redis_wire import Redis
 from agent.runs import Job, Run
 from agent.service import Connection, Service, handled
+from agent.shared import SharedFolders, Tenure
 from agent.store import FolderStore
 from agent.transport import COORDINATOR, LocalTransport
-from agent.words import Want
+from agent.words import EMPTY, Slot, Want
 
 from agent.tests import support
 from agent.tests.support import FARM
@@ -578,6 +580,22 @@ class Handled(unittest.TestCase):
                 self.assertEqual(handled(mock.Mock(side_effect=fault), {}, link), 70)
             link.say.assert_called_once_with(said)
             self.assertEqual(heard.getvalue()[:9], log)
+
+
+class Tenures(unittest.TestCase):
+    def test_in_use(self) -> None:
+        """A tenure that nobody used is given back, also where the ask of an execution that its caller left is over only later."""
+        agent, lines = mock.Mock(wait=lambda epoch, patience, is_done: support.until(is_done)), list[str]()
+
+        def call(line: str, epoch: int) -> Answer:
+            lines.append(line)
+            return Answer(note="aborted 2" if lines[2:] else "refused TenureInUse")
+
+        agent.call = call
+        shared, tenure = SharedFolders(agent), Tenure(1, 2, Slot("shared:s", True, 0, EMPTY), "/nowhere", 1, users=1)
+        shared.tenures["shared:s"] = tenure
+        self.assertEqual(shared.leave("shared:s", tenure, support.Heard()).said, "shared:s is given back as it was")
+        self.assertEqual((lines, shared.tenures), (["abort 2"] * 3, {}))
 
 
 class Services(support.RoomTest):
