@@ -709,6 +709,10 @@ class Unanswered(support.RoomTest):
                 transport.is_cut = False
                 support.until(lambda: coordinator.versions(folder))
         transport.is_cut = True
+        self.unheard(node)
+
+    def unheard(self, node: NodeAgent) -> None:
+        """Who waits no longer is told where the coordinator wasn't heard."""
         with self.assertRaisesRegex(WaitOver, "within 0 seconds: the coordinator hasn't answered yet"):
             Run(node, Job(["true"], self.room, {}, [], wait=0), support.Heard()).run()
 
