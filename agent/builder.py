@@ -5,13 +5,16 @@ Owes the filters that it ends with the agent, and that of a cache mount it uses 
 from __future__ import annotations
 
 import contextlib
+import glob
 import json
 import os
 import re
 import subprocess
 import tempfile
 import threading
+import time
 from dataclasses import dataclass, field
+from datetime import datetime
 from typing import Callable, Iterator, Protocol
 
 from agent.dockerfile import Base
@@ -28,6 +31,9 @@ REGISTRY = rf"(?=[^/]*[.:]|localhost/){LABEL}(?:\.{LABEL})*(?::[0-9]+)?/"
 TAG = r":[0-9A-Za-z_][0-9A-Za-z_.-]{0,127}"
 IMAGE_NAME = re.compile(rf"(?!sha256:)(?P<registry>{REGISTRY})?{PART}(?:/{PART})*(?P<tag>{TAG})?")
 LONGEST_NAME = 255  # with its registry, which is localhost/ where none is named
+# A secret that no step asks for: it stands in the containers of a build, and in no image. It tells when the build began.
+MARK = "id=farm-build-"
+MARKED = re.compile(rf"{MARK}([0-9.]+),")
 
 
 def check_tag(tag: str) -> None:
@@ -75,7 +81,7 @@ class Builder(Protocol):
         """Removes the images that lost their last name to such a tag, and nothing else. No build is under way. Which ones stay, and why."""
 
     def sweep(self) -> None:
-        """Removes what builds left that didn't end by themselves. None is under way."""
+        """Removes the containers and images that builds left which didn't end by themselves. None is under way."""
 
 
 class Buildah:
@@ -125,6 +131,7 @@ class Buildah:
     def command(self, image: Image) -> tuple[list[str], dict[str, str]]:
         os.makedirs(f"{image.room}/tmp/buildah-cache", exist_ok=True)
         words = self._words("bud", "--isolation", "chroot", "--pull=false", "--iidfile", f"{image.room}/image", "-f", image.dockerfile)
+        words.append(f"--secret={MARK}{time.time():.3f},src={os.devnull}")
         words += [f"--build-arg={key}={value}" for key, value in image.build_args.items()]
         words += ["--target", image.target] if image.target else []
         words += ["--format", image.format] if image.format else []
@@ -203,5 +210,28 @@ class Buildah:
         return next((each for each in below if (own := self._layers(each)) == layers[: len(own)]), None)
 
     def sweep(self) -> None:
-        if os.path.isdir(f"{self.home}/root"):
-            self._call("rm", "--all")
+        left = self._left()
+        if left:
+            with self._cleaning():
+                stages = self._stages(left)
+                self.unnamed.update(stages)
+                self._said("rm", *(container for container, _, _ in left))
+                for image in stages:
+                    self._drop(image)
+
+    def _left(self) -> list[tuple[str, str, float]]:
+        """The containers of builds of the farm: each with the image that it begins with, and when its build began."""
+        found = []
+        for path in glob.glob(f"{glob.escape(self.home)}/root/vfs-containers/*/userdata/buildah.json"):
+            with contextlib.suppress(OSError, ValueError, LookupError, TypeError), open(path) as file:
+                told = json.load(file)
+                marks = [MARKED.match(secret) for secret in told["CommonBuildOpts"]["Secrets"] or ()]
+                found += [(told["container-id"], f"sha256:{told['image-id']}", float(mark[1])) for mark in marks if mark]
+        return found
+
+    def _stages(self, left: list[tuple[str, str, float]]) -> list[str]:
+        """Which of these images a killed build made of a stage for those after it, the newest first: they have no name, and are younger than
+        the build, so that its Dockerfile doesn't name them."""
+        images = json.loads(self._said("images", "--json", "--no-trunc", "--all"))
+        made = {each["id"]: datetime.fromisoformat(each["createdatraw"]).timestamp() for each in images if not each["names"]}
+        return sorted({image for _, image, begun in left if made.get(image, begun) > begun}, key=lambda image: -made[image])

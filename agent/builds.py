@@ -4,6 +4,7 @@ Owes the filter what a run owes it (`runs`), and that nothing is leased, and not
 """
 from __future__ import annotations
 
+import contextlib
 import os
 import tempfile
 import threading
@@ -51,6 +52,8 @@ class BuildAsked:
             check_tag(self.tag)
 
     def dockerfile(self) -> str:
+        if not os.path.isdir(self.context):
+            raise Refused(f"{self.context} is no folder of this machine, as a build's context has to be")
         names = [f"{self.context}/Containerfile", f"{self.context}/Dockerfile"]
         if self.file:
             names = [os.path.join(self.cwd, self.file), os.path.join(self.context, self.file)]
@@ -76,15 +79,23 @@ class Builds:
     def enter(self) -> str:
         """A room for one more build."""
         with self.lock:
-            if self.under_way == 0 and self.dirty:
-                if os.path.isdir(self.home):
-                    self.agent.places.trash.take(self.home)
-                    self.agent.places.forget_within(self.home)
-                self.builder.sweep()
-                self.dirty = False
+            self._sweep()
             self.under_way += 1
             os.makedirs(self.home, exist_ok=True)
             return tempfile.mkdtemp(prefix="b", dir=self.home)
+
+    def sweep(self) -> None:
+        """Removes what killed builds left, unless one is under way."""
+        with self.lock:
+            self._sweep()
+
+    def _sweep(self) -> None:
+        if self.under_way == 0 and self.dirty:
+            if os.path.isdir(self.home):
+                self.agent.places.trash.take(self.home)
+                self.agent.places.forget_within(self.home)
+            self.builder.sweep()
+            self.dirty = False
 
     def leave(self, room: str, ended_well: bool) -> list[str]:
         """What is to be told of images that lost their names. They go when no build is under way that may begin with them."""
@@ -168,6 +179,10 @@ class Build:
         run = Run(self.builds.agent, job, self.caller)
         try:
             status = run.run()
+        except (FarmFault, OSError):
+            with contextlib.suppress(FileNotFoundError):  # else it wasn't built
+                self.caller.say(f"image {self.builds.builder.built(image)} is built, and isn't tagged")
+            raise
         finally:
             for path in run.paths.values():
                 self.builds.agent.places.forget(path)

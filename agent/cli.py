@@ -46,6 +46,19 @@ def seconds(text: str) -> float:
     return float(text)
 
 
+def node(text: str) -> int:
+    """A node's number, or how many a farm has."""
+    if not 1 <= int(text) <= 1024:
+        raise argparse.ArgumentTypeError(f"a farm has the nodes 1 to 1,024, and not {text}")
+    return int(text)
+
+
+def ticket(text: str) -> int:
+    if not 1 <= int(text) < 2**64:
+        raise ValueError
+    return int(text)
+
+
 def path(text: str) -> str:
     """A path that is named: an empty one, as of a variable that isn't set, would be the folder that this is called in."""
     if not text:
@@ -66,17 +79,17 @@ def _serving_words(verbs: Any) -> None:
     coordinator = _verb(
         verbs, "coordinator", do_coordinator, "the coordinator alone", "farm coordinator --broker redis://10.0.0.1"
     )
-    node = _verb(verbs, "node", do_node, "one node alone", "farm node 2 --broker redis://10.0.0.1")
-    node.add_argument("number", type=int, metavar="N")
-    for made in (up, coordinator, node):
-        made.add_argument("--nodes", type=int, default=3, help="how many nodes the farm has (%(default)s)")
+    one = _verb(verbs, "node", do_node, "one node alone", "farm node 2 --broker redis://10.0.0.1")
+    one.add_argument("number", type=node, metavar="N")
+    for made in (up, coordinator, one):
+        made.add_argument("--nodes", type=node, default=3, help="how many nodes the farm has (%(default)s)")
         made.add_argument("--contents", type=path, metavar="FOLDER", help="where contents are kept: a folder that all machines see")
         made.add_argument("--verbose", action="store_true", help="says what the filters answer")
     for made in (up, coordinator):
         made.add_argument(
             "--lease-timeout", type=seconds, metavar="SECONDS", help="withdraws the leases of a node that wasn't heard for so long"
         )
-    for made in (coordinator, node):
+    for made in (coordinator, one):
         broker = os.environ.get("FARM_BROKER")
         made.add_argument("--broker", default=broker, required=not broker, metavar="redis://..", help="Redis (or FARM_BROKER, which others don't see)")
 
@@ -86,19 +99,20 @@ def _run_words(verbs: Any) -> None:
         verbs, "run", do_run, "runs a command with its folders leased",
         "farm run --folder locked:ccache=/tmp/ccache -- make CCACHE_DIR=/tmp/ccache CC='ccache gcc'",
     )
-    run.add_argument("--node", type=int, help="the node that runs it (the first one here)")
+    run.usage = "farm run [OPTION].. [--folder [ro=]FOLDER=PATH].. [--] COMMAND.."
+    run.add_argument("--node", type=node, metavar="N", help="the node that runs it (the first one here that isn't retired)")
     run.add_argument("--folder", action="append", default=[], metavar="[ro=]FOLDER=PATH", help="locked:ID, private:ID or shared:ID")
     run.add_argument("--wait", type=seconds, metavar="SECONDS", help="waits no longer for the lease, and for 0 only takes what is free: else the status is 75")
     run.add_argument("--must-commit", action="store_true", help="status 75 where what the command left doesn't count")
     run.add_argument("--on-lost", choices=["stop", "go-on"], default="go-on", help="what a command does whose lease has ended")
-    run.add_argument("command", nargs="+", metavar="COMMAND")
+    run.add_argument("command", nargs=argparse.REMAINDER, metavar="COMMAND")
 
 
 def _build_words(verbs: Any) -> None:
     build = _verb(
         verbs, "build", do_build, "builds a Dockerfile with its cache mounts leased", "farm build --node 1 -t app:latest ."
     )
-    build.add_argument("--node", type=int)
+    build.add_argument("--node", type=node, metavar="N")
     build.add_argument("-f", "--file", type=path, metavar="Dockerfile")
     build.add_argument("-t", "--tag")
     build.add_argument("--build-arg", action="append", default=[], metavar="K=V")
@@ -124,9 +138,9 @@ def _asking_words(verbs: Any) -> None:
     get.add_argument("folder", metavar="FOLDER[@NUMBER]")
     get.add_argument("to", type=path, metavar="DIR")
     withdraw = _verb(verbs, "withdraw", do_withdraw, "ends a lease: its holder's commit won't count", "farm withdraw 17")
-    withdraw.add_argument("ticket", type=int, metavar="T")
+    withdraw.add_argument("ticket", type=ticket, metavar="T")
     retire = _verb(verbs, "retire", do_retire, "ends a node for good", "farm retire 3")
-    retire.add_argument("node", type=int, metavar="N")
+    retire.add_argument("node", type=node, metavar="N")
     retire.add_argument("--gone", action="store_true", help="the node is gone for good: you vouch that all it ran is over")
     prune = _verb(verbs, "prune", do_prune, "makes a folder's next version the empty one", "farm prune locked:ccache")
     prune.add_argument("folder")
@@ -148,8 +162,6 @@ def _serve(args: argparse.Namespace, coordinator: bool, nodes: list[int]) -> int
 
 
 def do_up(args: argparse.Namespace) -> int:
-    if not 1 <= args.nodes <= 1024:
-        raise UsageFault("a farm has 1 to 1,024 nodes")
     return _serve(args, True, list(range(1, args.nodes + 1)))
 
 
@@ -158,7 +170,7 @@ def do_coordinator(args: argparse.Namespace) -> int:
 
 
 def do_node(args: argparse.Namespace) -> int:
-    if not 1 <= args.number <= args.nodes:
+    if args.number > args.nodes:
         raise UsageFault(f"there is no node {args.number} of {args.nodes}: --nodes says how many the farm has")
     return _serve(args, False, [args.number])
 
@@ -188,7 +200,7 @@ def start_farm(home: str) -> None:
         with open(f"{home}/farm.log", "rb") as said:
             said.seek(begun)
             last = said.read().decode(errors="replace").strip().splitlines()[-1:]
-        fault = FarmFault(last[0].removeprefix("farm: ") if last else "the farm doesn't start")
+        fault = FarmFault(last[0].removeprefix("farm: ") if last else f"the farm doesn't start, and {home}/farm.log doesn't say why")
         ended = started.wait()
         fault.status = ended if ended in (USAGE, MISSING) else fault.status
         raise fault
@@ -201,39 +213,54 @@ def node_sockets(home: str) -> Iterator[str]:
     return (path for name in names if client.is_there(path := f"{home}/{name}"))
 
 
-def socket_of(home: str, node: int | None) -> str | None:
-    """The socket of a node of this machine, or of the first one."""
-    if node is not None:
-        path = f"{home}/node{node}.sock"
-        return path if client.is_there(path) else None
-    return next(node_sockets(home), None)
+def sockets_of(home: str, node: int | None) -> Iterator[str]:
+    """The socket of a node of this machine, or of each one, where they answer."""
+    if node is None:
+        return node_sockets(home)
+    path = f"{home}/node{node}.sock"
+    return iter([path] if client.is_there(path) else [])
+
+
+def start_for(home: str, node: int | None) -> None:
+    """Starts a farm where no node runs, unless that is for people to do."""
+    if node not in (None, 1) or client.is_there(f"{home}/coordinator.sock"):
+        raise FarmFault(f"no node {node or ''} runs in {home}".replace("  ", " "))
+    if os.path.exists(f"{home}/joined"):
+        raise FarmFault(f"no node runs in {home}, which is of a farm over a broker: farm node N --broker redis://.. runs one")
+    if os.path.exists(f"{home}/served"):
+        raise FarmFault(f"the farm of {home} was killed: farm up starts it again, or remove {home}/served")
+    os.makedirs(home, mode=0o700, exist_ok=True)
+    with open(f"{home}/starting", "w") as lock:
+        fcntl.flock(lock, fcntl.LOCK_EX)
+        if next(sockets_of(home, node), None) is None:
+            start_farm(home)
+
+
+def ask_running(home: str, node: int | None, what: dict[str, Any]) -> client.Asked | None:
+    """Asks a node, or the first one here that isn't retired. None where none runs."""
+    retired = None
+    for path in sockets_of(home, node):
+        asked = client.ask(path, what | {"signals": True})
+        if not asked.told:
+            return asked
+        retired = asked.told["retired"]
+    if retired and node is None:
+        raise FarmFault(f"every node that runs in {home} was retired: begin one of another number, as farm up with more --nodes does")
+    if retired:
+        raise FarmFault(f"{retired}: name another one with --node, or none")
+    return None
 
 
 def ask_node(home: str, node: int | None, what: dict[str, Any]) -> int:
     """Asks a node, and starts a farm for it where none runs here."""
-    for turn in range(5):
-        path = socket_of(home, node)
-        is_up = client.is_there(f"{home}/coordinator.sock")
-        if path is None and is_up and turn < 4:
-            time.sleep(0.3)  # its nodes may be about to stand
-            continue
-        if path is None:
-            if node not in (None, 1) or is_up:
-                raise FarmFault(f"no node {node or ''} runs in {home}".replace("  ", " "))
-            if os.path.exists(f"{home}/joined"):
-                raise FarmFault(f"no node runs in {home}, which is of a farm over a broker: farm node N --broker redis://.. runs one")
-            if os.path.exists(f"{home}/served"):
-                raise FarmFault(f"the farm of {home} was killed: farm up starts it again, or remove {home}/served")
-            os.makedirs(home, mode=0o700, exist_ok=True)
-            with open(f"{home}/starting", "w") as lock:
-                fcntl.flock(lock, fcntl.LOCK_EX)
-                if socket_of(home, node) is None:
-                    start_farm(home)
-            path = f"{home}/node1.sock"
-        try:
-            return client.ask(path, what | {"signals": True}).status
-        except client.NoFarm:
-            time.sleep(0.3)  # it is ending
+    for turn in range(6):
+        with contextlib.suppress(client.NoFarm):
+            if asked := ask_running(home, node, what):
+                return asked.status
+            if turn > 3 or not client.is_there(f"{home}/coordinator.sock"):
+                start_for(home, node)
+                continue
+        time.sleep(0.3)  # it is ending, or its nodes are about to stand
     raise FarmFault(f"no farm answers in {home}")
 
 
@@ -250,10 +277,13 @@ def own_umask() -> int:
 
 
 def do_run(args: argparse.Namespace) -> int:
+    command = args.command[args.command[:1] == ["--"] :]
+    if not command:
+        raise UsageFault("run wants a command, as in farm run -- make")
     for word in args.folder:
         want_of(word)  # wrong words are told before a farm is started
     return ask_node(args.home, args.node, {
-        "do": "run", "folders": args.folder, "command": args.command, "cwd": own_folder(), "env": dict(os.environ),
+        "do": "run", "folders": args.folder, "command": command, "cwd": own_folder(), "env": dict(os.environ),
         "wait": args.wait, "must_commit": args.must_commit, "on_lost": args.on_lost, "umask": own_umask(),
     })
 

@@ -51,9 +51,13 @@ class Missing(FarmFault):
 
 
 class LifeOver(FarmFault):
-    """The node's filter ended while something of that life was under way."""
+    """The node's filter ended, or the node was retired, while something of that life was under way."""
 
     status = LOST
+
+
+class NodeRetired(FarmFault):
+    """Nothing is granted to the node any more, and nothing of the command was begun there."""
 
 
 class WaitOver(FarmFault):

@@ -6,10 +6,13 @@ are sealed, under a key that is derived from the farm's, so that nothing an agen
 """
 from __future__ import annotations
 
+import contextlib
 import hashlib
 import hmac
 import os
 import secrets
+
+from agent.faults import named
 
 FRONT = "hint "
 
@@ -19,15 +22,16 @@ def make_key(path: str) -> str:
     if not os.path.exists(path):
         os.makedirs(os.path.dirname(path), exist_ok=True)
         fresh = f"{path}.{secrets.token_hex(4)}"
-        with open(os.open(fresh, os.O_WRONLY | os.O_CREAT | os.O_EXCL, 0o600), "w") as file:
-            file.write(secrets.token_hex(32) + "\n")
-            file.flush()
-            os.fsync(file.fileno())
         try:
-            os.link(fresh, path)  # the first of two that make it at once
-        except FileExistsError:
-            pass
-        os.unlink(fresh)
+            with named(path), open(os.open(fresh, os.O_WRONLY | os.O_CREAT | os.O_EXCL, 0o600), "w") as file:
+                file.write(secrets.token_hex(32) + "\n")
+                file.flush()
+                os.fsync(file.fileno())
+            with contextlib.suppress(FileExistsError):
+                os.link(fresh, path)  # the first of two that make it at once
+        finally:
+            with contextlib.suppress(FileNotFoundError):
+                os.unlink(fresh)
         folder = os.open(os.path.dirname(path), os.O_RDONLY | os.O_DIRECTORY)
         os.fsync(folder)  # a farm whose key is lost can't go on
         os.close(folder)

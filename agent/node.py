@@ -15,7 +15,7 @@ from typing import Callable
 
 from agent.caller import LATE, Caller, Patience
 from agent.executions import Executions
-from agent.faults import ClientGone, FarmFault, LifeOver
+from agent.faults import ClientGone, FarmFault, LifeOver, NodeRetired, WaitOver, tell
 from agent.hints import Hints
 from agent.lines import Answer, Talk, line_of
 from agent.needs import Needs
@@ -186,7 +186,7 @@ class NodeAgent:
         elif words[0] == "gone" and int(words[1]) == self.node:
             self.retired = True
         elif words[0] == "outdated" and int(words[1]) == self.node and int(words[2]) > self.life:
-            self.log(f"a later life of this node, {words[2]}, was heard: a new one begins here")
+            tell(f"a later life of node {self.node} was heard, so a new one begins here: does another agent run as node {self.node}?")
             self.talk.restart(self.talk.epoch)
         elif words[0] == "lacks":
             threading.Thread(target=self._offer, args=(int(words[1]), words[2]), daemon=True).start()
@@ -225,12 +225,15 @@ class NodeAgent:
                     patience.check()
             if epoch != self.talk.epoch:
                 raise LifeOver("the node began a new life")
-            if self.retired:
-                raise FarmFault(f"node {self.node} was retired: nothing is granted to it any more")
+            self.check_retired()
             if not woken and time.monotonic() - self.resent > delay / 2:
                 self.resent = time.monotonic()
                 self.call("resend", epoch)
                 delay = min(delay * 2, 5.0)
+
+    def check_retired(self) -> None:
+        if self.retired:
+            raise NodeRetired(f"node {self.node} was retired for good, and runs nothing any more")
 
     def asked(self, line: str, epoch: int) -> int | None:
         """Makes an ask. None where it can't be made now."""
@@ -262,8 +265,10 @@ class NodeAgent:
             self.wait(epoch, patience, is_decided)
         except LifeOver:
             raise  # the ask ended with its life
-        except BaseException:
+        except BaseException as fault:
             self._leave(ask, epoch)
+            if isinstance(fault, WaitOver) and ask not in self.holders:
+                raise WaitOver(f"{fault}: {UNHEARD}") from None
             raise
         finally:
             self.holders.pop(ask, None)
@@ -305,7 +310,7 @@ class NodeAgent:
         if note != f"begun {ticket}":
             raise FarmFault(f"it can't begin: {note.removeprefix('refused ')}")
 
-    def ending(self, ask: int, ticket: int, epoch: int, caller: Caller) -> Ending:
+    def ending(self, ask: int, ticket: int, epoch: int, caller: Caller | None) -> Ending:
         """Waits for what came of a commit. Its versions are in the note that it came with, which another thread may be about to hear."""
         words: list[str] = []
         late = 0.0

@@ -247,9 +247,11 @@ class Places:
             if is_folder(path) and not self._is_ours(path):
                 self._note(path, None, None)
 
-    def keep(self, store: Store, path: str, away: Callable[[str], None] = lambda why: None) -> tuple[bytes, str]:
-        """Keeps what a path holds: its index, and the digest under which it lasts. Where it still is the version that it was, its files
-        aren't read."""
+    def keep(
+        self, store: Store, path: str, away: Callable[[str], None] = lambda why: None, check: Callable[[], None] = lambda: None
+    ) -> tuple[bytes, str]:
+        """Keeps what a path holds, as long as `check` finds that somebody waits: its index, and the digest under which it lasts. Where it
+        still is the version that it was, its files aren't read."""
         if not is_folder(path):
             raise FarmFault(f"{path} is no folder any more, and nothing of it is kept")
         with store.making():
@@ -261,7 +263,7 @@ class Places:
             self._note(path, None, None)
             before = signature(path)
             with self.rooms.room() as room:
-                index = trees.make(store, path, room)
+                index = trees.make(store, path, room, check)
             digest = store.publish(index, away)
             after = signature(path)
             self._note(path, digest, after if after == before else None)

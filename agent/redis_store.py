@@ -45,8 +45,8 @@ class RedisStore:
             said = self.server.call("CONFIG", "GET", "append*")
         except RedisFault:
             return False
-        settings = dict(zip(said[::2], said[1::2]))
-        return (settings.get(b"appendonly"), settings.get(b"appendfsync")) == (b"yes", b"always")
+        pairs = list(zip(said[::2], said[1::2])) if isinstance(said, list) else []
+        return (b"appendonly", b"yes") in pairs and (b"appendfsync", b"always") in pairs
 
     def making(self) -> contextlib.AbstractContextManager[None]:
         return self.folder.making()
@@ -167,8 +167,11 @@ class RedisStore:
         found: dict[str, None] = {}
         place: Word = b"0"
         while True:
-            place, keys = self.server.call("SCAN", place, "MATCH", f"{front}*", "COUNT", 1000)
-            found.update((key.decode(errors="replace").removeprefix(front), None) for key in keys)
+            said = self.server.call("SCAN", place, "MATCH", f"{front}*", "COUNT", 1000)
+            if not isinstance(said, list) or [type(each) for each in said] != [bytes, list]:
+                raise RedisFault("what came isn't the answer to SCAN")
+            place, keys = said
+            found.update((key.decode(errors="replace").removeprefix(front), None) for key in keys if isinstance(key, bytes))
             if place == b"0":
                 return list(found)
 

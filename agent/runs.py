@@ -13,11 +13,11 @@ from typing import Callable
 
 from agent.caller import Caller, Patience
 from agent.executions import Execution
-from agent.faults import ClientGone, FarmFault, LifeOver, UsageFault
+from agent.faults import ClientGone, FarmFault, LifeOver, NodeRetired, UsageFault
 from agent.lines import line_of
 from agent.node import Ending, NodeAgent
 from agent.places import check_apart, path_order, place_of
-from agent.shared import Tenure
+from agent.shared import Closed, Tenure
 from agent.tools import LOOK, need
 from agent.words import MOST_FOLDERS, Grant, Slot, Want
 
@@ -74,6 +74,8 @@ class Run:
                 if self.begun:
                     raise
                 status = None  # nothing ran yet: it is asked for in the new life
+            except NodeRetired as fault:
+                raise LifeOver(str(fault)) if self.begun else fault
             if status is not None:
                 return status
             time.sleep(0.05)
@@ -82,7 +84,7 @@ class Run:
     def _try(self) -> int | None:
         """One run. None where a SHARED folder was recalled before the ask: then all is to be done again."""
         tenures: dict[str, Tenure] = {}
-        lost = False
+        ends: list[Closed] = []
         try:
             for want in sorted((w for w in self.job.wants if w.is_shared), key=lambda w: w.folder):
                 tenures[want.folder] = self._enter(want)  # by rising name: no two nodes wait for each other
@@ -91,10 +93,11 @@ class Run:
             status = None if ask is None else self._run_asked(ask, tenures)
         finally:
             for folder, tenure in tenures.items():
-                closed = self.agent.shared.leave(folder, tenure, self.caller)
-                lost = lost or closed.is_lost
-                self.caller.say(closed.said)
-        return self.job.lost_status or 0 if lost and status == 0 else status
+                ends.append(self.agent.shared.leave(folder, tenure, self.caller))
+                self.caller.say(ends[-1].said)
+        if status == 0 and any(closed.is_left for closed in ends):
+            raise ClientGone("nobody waits for it any more")
+        return self.job.lost_status or 0 if status == 0 and any(closed.is_lost for closed in ends) else status
 
     def _enter(self, want: Want) -> Tenure:
         def prepare(tenure: Tenure) -> None:
@@ -173,7 +176,7 @@ class Run:
             patience.say(why)
             patience.check()
 
-        return self.agent.places.rooms.file(self.agent.places.keep(self.agent.store, self.paths[slot.folder], away)[0])
+        return self.agent.places.rooms.file(self.agent.places.keep(self.agent.store, self.paths[slot.folder], away, patience.check)[0])
 
     def _command(self, ticket: int, tenures: dict[str, Tenure], binds: list[tuple[str, str, bool]]) -> int:
         agent, job = self.agent, self.job
@@ -205,7 +208,7 @@ class Run:
         while True:
             status = execution.wait(LOOK)
             if self.epoch != self.agent.talk.epoch or execution.was_ended and stopped is None:
-                raise LifeOver("the node began a new life")
+                raise LifeOver("the node began a new life, or ends")
             if status is not None:
                 return status
             if self.caller.gone:

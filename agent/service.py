@@ -15,10 +15,11 @@ import time
 import traceback
 from typing import IO, Any, Callable
 
-from agent.faults import BAD_DOCKERFILE, FAULT, FarmFault, sentence
+from agent.faults import BAD_DOCKERFILE, FAULT, LOST, FarmFault, NodeRetired, sentence
 
 Handler = Callable[[dict[str, Any], "Connection"], int]
 ENDING = (signal.SIGINT, signal.SIGTERM, signal.SIGHUP, signal.SIGQUIT)
+HELD_MOST = 10.0  # seconds for which a caller that was told to end waits for what holds its request up, as a folder that can't be reached
 
 
 class Connection:
@@ -29,6 +30,7 @@ class Connection:
         self.gone = False
         self.signalled: Callable[[int], None] | None = None
         self.lock = threading.Lock()
+        self.over = threading.Event()
 
     def _write(self, what: dict[str, Any]) -> None:
         try:
@@ -44,10 +46,11 @@ class Connection:
         self._write({"told": what})
 
     def exit(self, status: int) -> None:
+        self.over.set()
         self._write({"exit": status})
 
     def listen(self, reader: IO[bytes]) -> None:
-        """Hears the command's signals, and whether it is still there."""
+        """Hears the command's signals, and whether it is still there. One that was told to end isn't held up for ever."""
         with contextlib.suppress(OSError):  # it was killed before it had read all
             for raw in reader:
                 try:
@@ -59,6 +62,9 @@ class Connection:
                 elif number in ENDING:  # no command runs that could hear it: it is as if its caller had gone
                     break
         self.gone = True
+        if not self.over.wait(HELD_MOST):
+            self.say("something that doesn't answer holds it up, and nobody waits for it any more: what comes of it isn't known")
+            self.exit(LOST)
 
 
 def answer(link: socket.socket, handler: Handler) -> None:
@@ -88,6 +94,9 @@ def handled(handler: Handler, asked: dict[str, Any], connection: Connection) -> 
     """The status of a request; each fault is told in one sentence."""
     try:
         return handler(asked, connection)
+    except NodeRetired as fault:
+        connection.tell({"retired": str(fault)})  # who asked knows whether another node will do
+        return fault.status
     except FarmFault as fault:
         connection.say(("refused: " if fault.status == BAD_DOCKERFILE else "") + str(fault))
         return fault.status
@@ -114,6 +123,7 @@ class Service:
             os.unlink(path)
         self.server = socket.socket(socket.AF_UNIX)
         self.server.bind(path)
+        self.own = os.lstat(path)
         os.chmod(path, 0o600)
         self.server.listen(64)
 
@@ -141,8 +151,7 @@ class Service:
 
     def close(self) -> None:
         self.closed = True
-        try:
-            os.unlink(self.path)
-        except OSError:
-            pass
+        with contextlib.suppress(OSError):
+            if os.path.samestat(os.lstat(self.path), self.own):  # else somebody removed the home, and the next farm there has begun
+                os.unlink(self.path)
         self.server.close()

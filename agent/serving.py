@@ -55,6 +55,10 @@ class Served:
     nodes: list[NodeAgent] = field(default_factory=list)
     services: list[Service] = field(default_factory=list)
 
+    def is_busy(self) -> bool:
+        """Whether somebody waits for something here, or a folder is open that has to be closed yet."""
+        return any(service.busy for service in self.services) or any(node.shared.tenures for node in self.nodes)
+
     def stop(self) -> None:
         for service in self.services:
             service.close()
@@ -96,12 +100,27 @@ def join(wanted: Wanted) -> None:
             file.write(wanted.broker.rpartition("@")[2].removeprefix("redis://") + "\n")
 
 
+def check_contents(folder: str, hints: Hints) -> None:
+    """Refuses a folder of contents that another farm has: each would forget what the other one needs."""
+    mark = f"{folder}/farm"
+    os.makedirs(folder, exist_ok=True)
+    try:
+        with open(mark, "x") as file:
+            file.write(hints.name())
+    except FileExistsError:
+        with open(mark) as file:
+            if file.read() not in ("", hints.name()):
+                raise UsageFault(f"{folder} has the contents of another farm: name another --contents. If that farm is gone, remove {mark}") from None
+
+
 def setup_of(wanted: Wanted) -> Setup:
     check(wanted)
     program = farmctl()
     os.makedirs(wanted.home, mode=0o700, exist_ok=True)
     key = make_key(f"{wanted.home}/key")
     hints = Hints(key)
+    if wanted.contents:
+        check_contents(wanted.contents, hints)
     transport: Transport = LocalTransport()
     if wanted.broker:
         transport = RedisTransport(wanted.broker, farm_name(hints))
@@ -172,19 +191,17 @@ def serve(wanted: Wanted) -> int:
         open(mark, "w").close()  # it stands until a farm that people started has ended well: till then no command starts another in its place
     print("up", flush=True)
     while not over.wait(0.5):
-        used = max(time.monotonic() if service.busy else service.used for service in served.services)
-        if wanted.while_used and time.monotonic() - used > IDLE:
+        if wanted.while_used and not served.is_busy() and time.monotonic() - max(service.used for service in served.services) > IDLE:
             for service in served.services:
                 service.close()
-            over.wait(0.2)
-            if not any(service.busy for service in served.services):
-                break
-            while any(service.busy for service in served.services) and not over.wait(0.2):
+            over.wait(0.2)  # who asked just now is answered yet
+            while served.is_busy() and not over.wait(0.2):
                 pass
             break
     served.stop()
-    if os.path.exists(mark):
-        os.unlink(mark)
+    if not wanted.while_used:
+        with contextlib.suppress(FileNotFoundError):
+            os.unlink(mark)
     _forget_pid(f"{wanted.home}/pid")
     return 0
 
@@ -200,6 +217,8 @@ def _forget_pid(path: str) -> None:
 
 def answer_command(agent: NodeAgent, builds: Builds, wanted: Wanted, asked: dict[str, Any], link: Connection) -> int:
     """A request to a node."""
+    if asked["do"] in ("run", "build"):
+        agent.check_retired()
     if asked["do"] == "run":
         uncounted = LOST if asked["must_commit"] else None
         wants = [want_of(word) for word in asked["folders"]]
@@ -217,6 +236,7 @@ def answer_command(agent: NodeAgent, builds: Builds, wanted: Wanted, asked: dict
     if asked["do"] == "forget":
         agent.places.forget_gone()
         link.tell(forget(agent, set(asked["needed"]), float(asked["grace"])))
+        builds.sweep()
     elif asked["do"] == "needed":
         link.tell(sorted(agent.needed(int(asked["keep"]))))
     elif asked["do"] == "store":

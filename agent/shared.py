@@ -5,13 +5,16 @@ executions left. A folder is closed, and so committed, when its last execution h
 """
 from __future__ import annotations
 
+import contextlib
 import threading
+import time
 from dataclasses import dataclass
 from typing import TYPE_CHECKING, Callable, Iterable
 
-from agent.caller import Caller, Patience
-from agent.faults import ClientGone, FarmFault, LifeOver
+from agent.caller import LATE, Caller, Patience
+from agent.faults import ClientGone, FarmFault, LifeOver, sentence
 from agent.lines import line_of
+from agent.tools import LOOK
 from agent.words import Slot, short_name
 
 if TYPE_CHECKING:
@@ -34,6 +37,10 @@ class Tenure:
     closing: bool = False
     used: bool = False  # an execution began under it
 
+    def why_not(self) -> str:
+        """Why nobody enters it."""
+        return "it is being closed here" if self.closing else "another node wants it, so those who have it here end first"
+
 
 @dataclass(frozen=True)
 class Closed:
@@ -41,6 +48,11 @@ class Closed:
 
     said: str
     is_lost: bool = False
+    is_left: bool = False  # nobody waits any more for what comes of it
+
+
+def left(folder: str) -> Closed:
+    return Closed(f"lost {folder}: what was left there isn't known to count", is_lost=True, is_left=True)
 
 
 class SharedFolders:
@@ -82,27 +94,30 @@ class SharedFolders:
                 if tenure and not tenure.recalled and not tenure.closing:
                     tenure.users += 1
                     return tenure
-                if tenure or folder in self.opening:
-                    self.changed.wait(1.0)
-                    self._check(epoch, patience)
-                    continue
-                self.opening.add(folder)
-            try:
-                opened = self._open(folder, epoch, patience, prepare)
-                with self.changed:
-                    opened.recalled = opened.ticket in self.recalled
-                    opened.users = 1
-                    self.tenures[folder] = opened
-                    return opened
-            finally:
-                with self.changed:
-                    self.opening.discard(folder)
-                    self.changed.notify_all()
+                if not tenure and folder not in self.opening:
+                    self.opening.add(folder)
+                    break
+                is_told = not self.changed.wait(1.0)
+            if epoch != self.agent.talk.epoch:
+                raise LifeOver("the node began a new life")
+            patience.check()
+            if is_told:
+                patience.say(f"waiting for {folder}: {tenure.why_not() if tenure else 'another command is opening it here'}")
+        return self._enter_first(folder, epoch, patience, prepare)
 
-    def _check(self, epoch: int, patience: Patience) -> None:
-        if epoch != self.agent.talk.epoch:
-            raise LifeOver("the node began a new life")
-        patience.check()
+    def _enter_first(self, folder: str, epoch: int, patience: Patience, prepare: Callable[[Tenure], None]) -> Tenure:
+        """Opens a folder, and counts in the execution for which it is opened."""
+        try:
+            opened = self._open(folder, epoch, patience, prepare)
+            with self.changed:
+                opened.recalled = opened.ticket in self.recalled
+                opened.users = 1
+                self.tenures[folder] = opened
+                return opened
+        finally:
+            with self.changed:
+                self.opening.discard(folder)
+                self.changed.notify_all()
 
     def recall(self, ticket: int) -> None:
         """Another node asks for a tenure: nobody enters it any more. It may come before the folder is open here."""
@@ -127,7 +142,7 @@ class SharedFolders:
             agent.begin(grant.ticket, epoch, patience)
             slot = grant.slots[0]
             path = f"{agent.home}/shared/{short_name(folder)}"
-            with agent.places.held(path):
+            with agent.places.held(path, patience.check):
                 agent.fill(slot, path, epoch, patience)
             tenure = Tenure(ask, grant.ticket, slot, path, epoch)
             prepare(tenure)
@@ -137,14 +152,30 @@ class SharedFolders:
             raise
 
     def leave(self, folder: str, tenure: Tenure, caller: Caller) -> Closed:
-        """Counts an execution out, once its own lease has ended. The last one closes the folder. What came of that."""
+        """Counts an execution out, once its own lease has ended. The last one closes the folder. What came of that. A caller may leave
+        meanwhile, and the folder is closed all the same: what others wrote there counts too."""
         with self.changed:
             tenure.users -= 1
             if tenure.users or tenure.closing:
                 return Closed(f"{folder} is in use by others here, and is committed after them")
             tenure.closing = True
+        patience, ends, late = Patience(caller, None), list[Closed](), time.monotonic() + LATE
+        closing = threading.Thread(target=lambda: ends.append(self._close(folder, tenure, patience)), daemon=True)
+        closing.start()
+        while closing.is_alive() and not (caller.gone and (patience.told or time.monotonic() > late)):
+            closing.join(LOOK)
+        return ends[0] if ends else left(folder)
+
+    def _close(self, folder: str, tenure: Tenure, patience: Patience) -> Closed:
+        """Commits what the executions left, and gives the tenure up by that."""
         try:
-            return self._close(folder, tenure, caller)
+            return self._commit(folder, tenure, patience)
+        except ClientGone:
+            return left(folder)
+        except Exception as fault:  # the last version stands
+            with contextlib.suppress(FarmFault, OSError):
+                self._given_up(tenure, f"abort {tenure.ticket}")
+            return Closed(f"lost {folder}: {sentence(fault) if isinstance(fault, OSError) else fault}", is_lost=True)
         finally:
             with self.changed:
                 if self.tenures.get(folder) is tenure:
@@ -153,30 +184,29 @@ class SharedFolders:
                 self.delayed.pop(tenure.ticket, None)
                 self.changed.notify_all()
 
-    def _close(self, folder: str, tenure: Tenure, caller: Caller) -> Closed:
-        """Commits what the executions left, and gives the tenure up by that."""
+    def _commit(self, folder: str, tenure: Tenure, patience: Patience) -> Closed:
         agent, slot = self.agent, tenure.slot
         if not tenure.used:
-            agent.give_back(tenure.ticket, tenure.epoch)
+            self._given_up(tenure, f"abort {tenure.ticket}")
             return Closed(f"{folder} is given back as it was")
-        try:
-            index, _ = agent.places.keep(agent.store, tenure.path, Patience(caller, None).say)
-            note = ""
-            with agent.places.rooms.file(index) as file:
+        index, _ = agent.places.keep(agent.store, tenure.path, patience.say)
+        with agent.places.rooms.file(index) as file:
+            note = self._given_up(tenure, line_of("finish", str(tenure.ticket), f"{slot.name}={file}"))
+        if note != f"finished {tenure.ticket}":
+            raise FarmFault(note)
+        ending = agent.ending(tenure.ask, tenure.ticket, tenure.epoch, patience.caller)
+        said = [f"{name} version {number}" for name, (number, _) in ending.versions.items()]
+        return Closed(f"{ending.how} {tenure.ticket} {' '.join(said) or folder}", is_lost=ending.how != "committed")
 
-                def is_finished() -> bool:  # an execution is over for the filter only when its own commit was sent
-                    nonlocal note
-                    note = agent.call(line_of("finish", str(tenure.ticket), f"{slot.name}={file}"), tenure.epoch).note
-                    return note != "refused TenureInUse"
+    def _given_up(self, tenure: Tenure, line: str) -> str:
+        """What the filter notes of the line that ends a tenure. An execution is over for it only when its own ask is, which for one that its
+        caller left may come late."""
+        note = ""
 
-                agent.wait(tenure.epoch, Patience(None, None), is_finished)
-            if note != f"finished {tenure.ticket}":
-                raise FarmFault(note)
-            ending = agent.ending(tenure.ask, tenure.ticket, tenure.epoch, caller)
-            said = [f"{name} version {number}" for name, (number, _) in ending.versions.items()]
-            return Closed(f"{ending.how} {tenure.ticket} {' '.join(said) or folder}", ending.how != "committed")
-        except ClientGone:
-            return Closed(f"lost {folder}: what was left there isn't known to count", True)
-        except Exception as fault:  # the last version stands
-            agent.give_back(tenure.ticket, tenure.epoch)
-            return Closed(f"lost {folder}: {fault}", True)
+        def is_over() -> bool:
+            nonlocal note
+            note = self.agent.call(line, tenure.epoch).note
+            return note not in ("refused TenureInUse", "refused OutOfMemory")
+
+        self.agent.wait(tenure.epoch, Patience(None, None), is_over)
+        return note

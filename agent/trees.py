@@ -83,9 +83,9 @@ def _check(path: str) -> None:
                 raise FarmFault(f"{whole} can't be kept: its name has more than {LONGEST} bytes")
 
 
-def _make(store: Store, path: str, beside: str | None) -> bytes:
+def _make(store: Store, path: str, beside: str | None, check: Callable[[], None]) -> bytes:
     with tempfile.TemporaryDirectory(dir=beside) as room:
-        _casync("make", f"--store={store.chunks}", *FEATURES, WHOLE, f"{room}/made.caidx", path)
+        _casync("make", f"--store={store.chunks}", *FEATURES, WHOLE, f"{room}/made.caidx", path, check=check)
         with open(f"{room}/made.caidx", "rb") as file:
             return file.read()
 
@@ -100,17 +100,18 @@ def _drop_hollow(store: Store, index: bytes) -> bool:
     return bool(hollow)
 
 
-def make(store: Store, path: str, beside: str | None = None) -> bytes:
+def make(store: Store, path: str, beside: str | None = None, check: Callable[[], None] = lambda: None) -> bytes:
     """The index of a folder, whose chunks are in the store's folder then. Hold `store.making` from before it until the index is
-    published. What isn't kept lies in the folder `beside`, else where the system has such files."""
+    published. What isn't kept lies in the folder `beside`, else where the system has such files. Where `check` finds that nobody waits for
+    it any more it ends."""
     try:
         _check(path)
         hidden = _hide_excludes(path)
     except RecursionError:
         raise FarmFault(f"{path} has too many folders within folders") from None
     try:
-        index = _make(store, path, beside)
-        return _make(store, path, beside) if _drop_hollow(store, index) else index
+        index = _make(store, path, beside, check)
+        return _make(store, path, beside, check) if _drop_hollow(store, index) else index
     finally:
         if hidden:
             _show_excludes(path)

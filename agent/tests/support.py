@@ -175,9 +175,9 @@ def until(holds: Callable[[], object], else_what: str = "what was waited for did
 
 
 @contextlib.contextmanager
-def redis_server(room: str, *words: str) -> Iterator[str]:
+def redis_server(room: str, *words: str, port: int | None = None) -> Iterator[str]:
     """A Redis server of the test's own. Its URL."""
-    port = free_port()
+    port = port or free_port()
     log = f"{room}/redis.log"
     server = subprocess.Popen(["redis-server", "--port", str(port), "--bind", "127.0.0.1", "--save", "", "--dir", room, "--logfile", log, *words])
     try:

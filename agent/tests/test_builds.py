@@ -1,6 +1,7 @@
 """Builds of Dockerfiles, with buildah; and what is refused before it is called."""
 from __future__ import annotations
 
+import json
 import os
 import shutil
 import signal
@@ -9,7 +10,7 @@ import subprocess
 import unittest
 from unittest import mock
 
-from agent.builder import Buildah, check_tag
+from agent.builder import Buildah, Image, check_tag
 from agent.executions import can_have_namespaces
 from agent.faults import FarmFault
 
@@ -40,6 +41,9 @@ class Builds(support.FarmTest):
     @unittest.skipUnless(support.is_root and can_have_namespaces(), "buildah's chroot isolation is tried as root, with namespaces")
     def test_build(self) -> None:
         shutil.copy(shutil.which("busybox") or "", self.path("context/busybox"))
+        self.write("bin/casync", f'#!/bin/sh\n[ $1 = make ] && [ -e {self.path("full")} ] && exit 9\nexec {shutil.which("casync")} "$@"\n')
+        os.chmod(self.path("bin/casync"), 0o755)
+        self.env["PATH"] = f"{self.path('bin')}:{self.env['PATH']}"
         first = self.farm("build", "--build-arg", "WHO=one", "-t", "app", "context")
         self.assertIn("is tagged app", first.stderr)
         self.assertIn("committed 2 locked:../../x version 1", first.stderr)
@@ -57,6 +61,9 @@ class Builds(support.FarmTest):
         names = Buildah(f"{self.home}/node1/containers")._images("--all").values()
         self.assertEqual(sorted(names, key=len), [set(), {"localhost/app:latest"}])  # the one without a name was built without one
         self.tags()
+        self.write("full", "")
+        unkept = self.farm("build", "--build-arg", "WHO=five", "-t", "app", "context", status=70).stderr
+        self.assertRegex(unkept, "farm: image sha256:[0-9a-f]{64} is built, and isn't tagged\nfarm: casync make: it ended with status 9\n")
 
     def tags(self) -> None:
         """buildah takes the names that are taken here, and no other ones."""
@@ -112,6 +119,26 @@ class Unnamed(support.RoomTest):
         self.assertRegex(" ".join(self.builder.drop_unnamed()), f"{first} buildah would remove {below}")
         self.assertEqual((self.builder.drop_unnamed(), self.left()), ([], kept))
 
+    def test_killed(self) -> None:
+        """What a killed build made of its stages goes with its containers. What it began with stays, also where that has no name."""
+        user = self.image()
+        self.write("f", "")
+        with socket.create_server(("127.0.0.1", 0)) as server:
+            add = f"ADD http://127.0.0.1:{server.getsockname()[1]}/x /x\n"  # it is asked, and never answers
+            for text in ("FROM scratch AS a\nCOPY f /f\nFROM a AS b\nCOPY f /g\nFROM b\n", f"FROM {user.removeprefix('sha256:')}\n"):
+                words, env = self.builder.command(Image(self.room, self.write("Dockerfile", text + add), self.room))
+                build = subprocess.Popen(words, env=env, stdout=subprocess.DEVNULL, stderr=subprocess.DEVNULL)
+                server.settimeout(support.PATIENCE)
+                link, _ = server.accept()
+                build.kill()
+                build.wait()
+                link.close()
+        subprocess.run(["buildah", *self.builder.storage, "from", "--name", "user", user], check=True, capture_output=True)
+        self.assertEqual(len(self.left()), 3)
+        self.builder.sweep()
+        self.assertEqual((self.builder.drop_unnamed(), self.left()), ([], {user}))
+        self.assertEqual([each["containername"] for each in json.loads(self.builder._said("containers", "--json"))], ["user"])
+
     def test_not_cleaned(self) -> None:
         """That images can't be removed is told, and they go another time."""
         old = self.tagged("app")
@@ -155,6 +182,8 @@ class Refused(support.FarmTest):
                 (["--target", "nowhere"], "refused: no stage is called nowhere")]
         for words, said in rows:
             self.assertRegex(self.asked("build", *words, self.path("context"), status=65), said)
+        for context in (self.path("nowhere"), "https://github.com/x/y", self.path("bad")):
+            self.assertIn("is no folder of this machine", self.asked("build", context, status=65))
         for tag in BAD_TAGS:
             self.assertIn("can't be an image's name", self.asked("build", f"--tag={tag}", self.path("context"), status=64), tag)
         for tag in GOOD_TAGS:

@@ -8,6 +8,7 @@ import os
 import random
 import shutil
 import signal
+import socket
 import subprocess
 import sys
 import threading
@@ -20,13 +21,15 @@ from agent.coordinator import CoordinatorAgent
 from agent.executions import can_have_namespaces
 from agent.faults import ClientGone, FarmFault, LifeOver, WaitOver
 from agent.hints import make_key
+from agent.lines import Answer
 from agent.node import NodeAgent, Setup
 from agent.redis_wire import Redis
 from agent.runs import Job, Run
 from agent.service import Connection, Service, handled
+from agent.shared import SharedFolders, Tenure
 from agent.store import FolderStore
 from agent.transport import COORDINATOR, LocalTransport
-from agent.words import Want
+from agent.words import EMPTY, Slot, Want
 
 from agent.tests import support
 from agent.tests.support import FARM
@@ -90,6 +93,7 @@ class Alone(support.FarmTest):
             self.farm("run", "--home", "sub/home", "--folder", f"locked:c={path}", "--", "true")
         self.assertIn("version 3 ticket 3 ", self.asked("log", "--home", self.path("sub/home"), "locked:c"))  # no lease was asked for before
         self.assertFalse(os.path.exists(self.path("ran")))
+        self.assertIn("the contents of another farm", self.asked("up", "--home", self.path("other"), "--contents", self.path("kept"), status=64))
 
     def test_starting(self) -> None:
         """A farm whose nodes are about to stand is waited for. A log that has become long is put aside."""
@@ -129,13 +133,15 @@ class Alone(support.FarmTest):
         os.rename(self.path("chunks"), f"{self.home}/contents/chunks")
 
     def test_left_early(self) -> None:
-        """A command whose caller goes while its folder is filled doesn't begin, and isn't waited for. One that waits for a path is told."""
-        self.write("bin/casync", f'#!/bin/sh\n[ $1 = make ] || {{ touch {self.path("filling")}; exec sleep 300; }}\nexec {shutil.which("casync")} "$@"\n')
+        """A command whose caller goes while its folder is filled doesn't begin, and isn't waited for, nor is what one leaves. One that waits
+        for a path is told."""
+        self.write("bin/casync", f'#!/bin/sh\n[ $1 = make ] && ! [ -e {self.path("slow")} ] || {{ touch {self.path("casync")}; exec sleep 300; }}\n'
+                   f'exec {shutil.which("casync")} "$@"\n')
         os.chmod(self.path("bin/casync"), 0o755)
         self.env["PATH"] = f"{self.path('bin')}:{self.env['PATH']}"
         self.farm("run", "--folder", "locked:c=w", "--", "touch", "w/f")
         run = self.begin("run", "--folder", "locked:c=v", "--", "touch", "ran")
-        self.wait_for(self.path("filling"))
+        self.wait_for(self.path("casync"))
         other = self.begin("run", "--folder", "locked:d=v/sub", "--", "true")
         self.hear(other, f"waiting for {os.path.realpath(self.room)}/v/sub: another command")
         run.send_signal(signal.SIGINT)
@@ -143,10 +149,18 @@ class Alone(support.FarmTest):
         self.assertEqual((run.returncode, os.path.exists(self.path("ran"))), (75, False))
         other.communicate(timeout=support.PATIENCE)
         self.assertEqual(other.returncode, 0)
+        os.unlink(self.path("casync"))
+        run = self.begin("run", "--folder", "locked:e=u", "--", "touch", "u/f", "slow")
+        self.wait_for(self.path("casync"))
+        run.send_signal(signal.SIGINT)
+        self.assertIn("nobody waits", run.communicate(timeout=60)[1])
+        self.assertIn("no version", self.asked("log", "locked:e", status=70))
 
     def test_wrong_words(self) -> None:
-        rows = [(["run", "--folder", "ccache=w", "--", "true"], 64, "is no folder"), (["run"], 64, "required"), (["what"], 64, "invalid choice"),
-                (["status"], 70, "farm up starts one"), (["withdraw", "x"], 64, "invalid int"), (["coordinator", "--broker", "10.0.0.1"], 64, "redis://HOST"),
+        rows = [(["run", "--folder", "ccache=w", "--", "true"], 64, "is no folder"), (["run"], 64, "wants a command"), (["run", "--"], 64, "wants a command"), (["what"], 64, "invalid choice"),
+                (["status"], 70, "farm up starts one"), (["withdraw", "x"], 64, "invalid ticket"), (["withdraw", "0"], 64, "invalid ticket"),
+                (["retire", "0"], 64, "the nodes 1 to 1,024"), (["up", "--nodes", "1025"], 64, "not 1025"), (["run", "--node", "0", "true"], 64, "not 0"),
+                (["coordinator", "--broker", "10.0.0.1"], 64, "redis://HOST"),
                 (["run", "--home", self.path("my home"), "--", "true"], 64, "has a space"),
                 (["node", "9", "--broker", "redis://127.0.0.1:1"], 64, "no node 9 of 3"), (["gc", "--keep", "0"], 64, "at least 1"),
                 (["run", "--wait", "nan", "--", "true"], 64, "invalid seconds value: 'nan'"), (["run", "--wait", "-1", "--", "true"], 64, "'-1'"),
@@ -223,10 +237,11 @@ class Alone(support.FarmTest):
         self.assertFalse(os.path.exists(self.path("got")))
 
     def test_program_from_here(self) -> None:
-        """The farm's program may be named from the folder in which a command is called."""
+        """The farm's program may be named from the folder in which a command is called. What follows a command's name is its own."""
         os.symlink(self.env["FARMCTL"], self.path("program"))
         self.env["FARMCTL"] = "./program"
-        self.assertEqual(self.farm("run", "--", "echo", "ran").stdout, "ran\n")
+        for words, said in ((["--", "echo", "--", "ran"], "-- ran\n"), (["--wait", "9", "echo", "--wait", "0", "-x"], "--wait 0 -x\n")):
+            self.assertEqual(self.farm("run", *words).stdout, said)
 
     def test_missing_program(self) -> None:
         for program, said in (("/nowhere/farmctl", "isn't there"), ("/bin/false", "doesn't start as the coordinator")):
@@ -256,7 +271,7 @@ class Nodes(support.FarmTest):
 
     def test_leases(self) -> None:
         """One farm for all of these: each takes a second to start."""
-        parts = [self.withdrawn, self.stopped, self.turns]
+        parts = [self.withdrawn, self.stopped, self.turns, self.retired]
         for part in [self.shared, self.shared_at_once, *parts] if can_have_namespaces() else parts:
             with self.subTest(part.__name__):
                 part()
@@ -281,8 +296,22 @@ class Nodes(support.FarmTest):
         self.write("go", "")
         self.ended(one, 0)
         self.assertIn("one\n", self.ended(two, 0))
+
+    def retired(self) -> None:
+        """What names no node goes to one that isn't retired. A command that ran meanwhile isn't made again elsewhere."""
+        held = self.run_on(1, "echo ran >> runs; touch in; until [ -e go ]; do sleep 0.05; done", folder="locked:d")
+        self.wait_for(self.path("in"))
+        self.asked("retire", "1")
+        plain = self.farm("run", "--folder", "locked:e=w", "--", "echo", "plain")
+        self.assertEqual(plain.stdout, "plain\n")
+        self.assertNotIn("retired", plain.stderr)
+        self.assertIn("node 1 was retired for good, and runs nothing any more: name another one", self.ended(self.run_on(1, "true"), 70))
+        self.write("go", "")
+        self.assertIn("isn't known to count", self.ended(held, 75))
+        self.assertEqual(self.read("runs"), "ran\n")
         self.asked("retire", "2")
-        self.assertIn("was retired", self.ended(self.run_on(2, "true"), 70))
+        for _ in range(2):
+            self.assertIn("every node that runs in", self.farm("run", "--", "true", status=70).stderr)
 
     def withdrawn(self) -> None:
         rows: list[tuple[list[str], int]] = [([], 0), (["--must-commit"], 75)]
@@ -354,10 +383,12 @@ class Nodes(support.FarmTest):
         self.assertIn("in use by others here", second.stderr)
         other = self.run_on(2, "cat w2/f", folder="shared:s")  # it waits until node 1 has closed the folder
         self.hear(other, "waiting for shared:s: node 1 has shared:s")
+        late = self.begin("run", "--node", "1", "--folder", "shared:s=w4", "--", "true")
+        self.hear(late, "waiting for shared:s: another node wants it, so those who have it here end first")
         self.write("go", "")
         self.assertIn("committed", self.ended(first, 0))
         self.assertIn("a\nb\n", self.ended(other, 0))
-
+        self.ended(late, 0)
 
     def shared_at_once(self) -> None:
         """Nodes that want one SHARED folder at once all get it, each in its turn."""
@@ -404,19 +435,29 @@ class Apart(support.FarmTest):
             self.end()
 
     def test_store_away(self) -> None:
-        """Who waits for a store that is away is told, and may leave."""
-        with support.redis_server(self.room, "--appendonly", "yes", "--appendfsync", "always") as url:
+        """Who waits for a store that is away is told, and may leave. What was left in a SHARED folder, maybe by others too, is committed
+        once the store is there again."""
+        keeps = ("--appendonly", "yes", "--appendfsync", "always")
+        rows = [("locked:c", signal.SIGINT), ("shared:c", signal.SIGINT), ("shared:d", signal.SIGHUP)][: 3 if can_have_namespaces() else 1]
+        with support.redis_server(self.room, *keeps) as url:
             self.up("coordinator", "--broker", url)
             os.makedirs(self.path("n1"))
             shutil.copy2(f"{self.home}/key", self.path("n1/key"))
             self.up("node", "1", "--home", self.path("n1"), "--broker", url)
-            run = self.begin("run", "--home", self.path("n1"), "--folder", "locked:c=w", "--", "sh", "-c", "echo x > w/f; touch in; until [ -e go ]; do sleep 0.05; done")
-            self.wait_for(self.path("in"))
+            script = "echo x > $0/f; touch $0.in; until [ -e go ]; do sleep 0.05; done"
+            runs = [self.begin("run", "--home", self.path("n1"), "--folder", f"{folder}={folder}", "--", "sh", "-c", script, folder) for folder, _ in rows]
+            for folder, _ in rows:
+                self.wait_for(self.path(f"{folder}.in"))
         self.write("go", "")
-        self.hear(run, "waiting for the store over Redis, which takes no contents: .*refused")
-        run.send_signal(signal.SIGINT)
-        self.assertIn("nobody waits", run.communicate(timeout=support.PATIENCE)[1])
-        self.assertEqual(run.returncode, 75)
+        for (folder, number), run in zip(rows, runs):
+            self.hear(run, "waiting for the store over Redis, which takes no contents: .*refused")
+            run.send_signal(number)
+            self.assertIn("nobody waits", run.communicate(timeout=60)[1], folder)
+            self.assertEqual(run.returncode, 75, folder)
+        with support.redis_server(self.room, *keeps, port=int(url.rpartition(":")[2])):
+            for folder, _ in rows[1:]:
+                support.until(lambda: f"{folder} is at version 1" in self.asked("status"))
+            self.assertIn("locked:c has no version", self.asked("log", "locked:c", status=70))
 
     def spoilt(self) -> None:
         """What is spoilt in a node's own folder comes from the store."""
@@ -511,7 +552,7 @@ for line in sys.stdin:
 
 class StoreFault(support.RoomTest):
     def test_next_life(self) -> None:
-        """A node whose disk failed it begins a new life."""
+        """A node whose disk failed it begins a new life, and so does one of which a later life was heard, which is told."""
         program = self.write("program", FAULTY)
         os.chmod(program, 0o755)
         agent = NodeAgent(1, 1, Setup(program, self.room, make_key(self.path("key")), FolderStore(self.path("contents")), LocalTransport(), lambda text: None))
@@ -520,8 +561,12 @@ class StoreFault(support.RoomTest):
         with self.assertRaises(LifeOver):
             agent.call("resend", 1)
         self.assertEqual((agent.talk.epoch, agent.call("resend", 2).note), (2, "resent"))
+        later = agent.hints.seal(f"outdated 1 {agent.life + 1}")
+        with contextlib.redirect_stderr(io.StringIO()) as heard:
+            agent.receive(later)
+        self.assertEqual((agent.talk.epoch, "does another agent run as node 1?" in heard.getvalue()), (3, True))
         with self.assertRaises(WaitOver), mock.patch.object(agent, "call", wraps=agent.call) as call:
-            agent.wait(2, Patience(None, 2.3), lambda: False)
+            agent.wait(3, Patience(None, 2.3), lambda: False)
         self.assertLessEqual(call.call_count, 3)  # after 0.3, 0.9 and 2.1 seconds, and not after 4.5
 
 
@@ -535,6 +580,52 @@ class Handled(unittest.TestCase):
                 self.assertEqual(handled(mock.Mock(side_effect=fault), {}, link), 70)
             link.say.assert_called_once_with(said)
             self.assertEqual(heard.getvalue()[:9], log)
+
+
+class Tenures(unittest.TestCase):
+    def test_in_use(self) -> None:
+        """A tenure that nobody used is given back, also where the ask of an execution that its caller left is over only later."""
+        agent, lines = mock.Mock(wait=lambda epoch, patience, is_done: support.until(is_done)), list[str]()
+
+        def call(line: str, epoch: int) -> Answer:
+            lines.append(line)
+            return Answer(note="aborted 2" if lines[2:] else "refused TenureInUse")
+
+        agent.call = call
+        shared, tenure = SharedFolders(agent), Tenure(1, 2, Slot("shared:s", True, 0, EMPTY), "/nowhere", 1, users=1)
+        shared.tenures["shared:s"] = tenure
+        self.assertEqual(shared.leave("shared:s", tenure, support.Heard()).said, "shared:s is given back as it was")
+        self.assertEqual((lines, shared.tenures), (["abort 2"] * 3, {}))
+
+
+class Services(support.RoomTest):
+    def test_held_up(self) -> None:
+        """Who is told to end ends, though what the agent calls for it never answers."""
+        ends = threading.Event()
+        self.addCleanup(ends.set)
+        service = Service(self.path("x.sock"), lambda *_: int(ends.wait()))
+        self.addCleanup(service.close)
+        threading.Thread(target=service.serve, daemon=True).start()
+        with mock.patch("agent.service.HELD_MOST", 0.2), socket.socket(socket.AF_UNIX) as link:
+            link.connect(service.path)
+            link.settimeout(30)
+            socket.send_fds(link, [b"f"], [0, 1, 2])
+            link.sendall(b'{}\n{"signal": 15}\n')
+            with link.makefile("rb") as reader:
+                heard, said, ended = (json.loads(reader.readline()) for _ in range(3))
+            self.assertIn("doesn't answer", said["say"])
+            self.assertEqual((heard, ended), ({"say": ""}, {"exit": 75}))
+
+    def test_next(self) -> None:
+        """Who removes a home and begins anew there isn't disturbed by the end of the farm that was there."""
+        os.makedirs(self.path("home"))
+        one = Service(self.path("home/x.sock"), mock.Mock())
+        shutil.rmtree(self.path("home"))
+        os.makedirs(self.path("home"))
+        other = Service(self.path("home/x.sock"), mock.Mock())
+        for service, is_there in ((one, True), (other, False)):
+            service.close()
+            self.assertEqual(os.path.exists(service.path), is_there)
 
 
 class Waits(unittest.TestCase):
@@ -590,7 +681,7 @@ class Unanswered(support.RoomTest):
             agent.talk.start()
             self.addCleanup(agent.stop)
             threading.Thread(target=agent.serve, daemon=True).start()
-        for folder, said, ended in (("locked:c", "lost [0-9]+: what the command left isn't known to count", ClientGone), ("shared:c", "lost shared:c", int)):
+        for folder, said in (("locked:c", "lost [0-9]+: what the command left isn't known to count"), ("shared:c", "lost shared:c")):
             path, caller, ends = self.path(folder), support.Heard(), list[object]()
             script = f"echo x > {path}/f; touch {path}.ran; until [ -e {path}.go ]; do sleep 0.05; done"
             run = Run(node, Job(["sh", "-c", script], self.room, {"PATH": os.environ["PATH"]}, [Want(folder, path)]), caller)
@@ -613,10 +704,17 @@ class Unanswered(support.RoomTest):
                 caller.gone = True
                 thread.join(support.PATIENCE)
                 self.assertRegex(caller.said[-1], said)
-                self.assertIsInstance(ends[0], ended)
+                self.assertIsInstance(ends[0], ClientGone)
                 self.assertEqual(coordinator.versions(folder), [])
                 transport.is_cut = False
                 support.until(lambda: coordinator.versions(folder))
+        transport.is_cut = True
+        self.unheard(node)
+
+    def unheard(self, node: NodeAgent) -> None:
+        """Who waits no longer is told where the coordinator wasn't heard."""
+        with self.assertRaisesRegex(WaitOver, "within 0 seconds: the coordinator hasn't answered yet"):
+            Run(node, Job(["true"], self.room, {}, [], wait=0), support.Heard()).run()
 
 
 @unittest.skipUnless(support.has("casync"), support.needs("casync"))

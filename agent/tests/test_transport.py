@@ -1,12 +1,14 @@
 """Transports and hints."""
 from __future__ import annotations
 
+import contextlib
 import os
 import socket
 import subprocess
 import threading
 import unittest
 import urllib.parse
+from typing import Any
 from unittest import mock
 
 from agent import trees
@@ -255,6 +257,19 @@ class Servers(unittest.TestCase):
                 with self.assertRaises(RedisFault, msg=said):
                     server_of(server.getsockname()[1]).calls([("PING",), ("PING",)])
                 thread.join()
+
+    def test_strange_store(self) -> None:
+        """What a server of Redis says and a store doesn't expect is a fault, and nothing else."""
+        strange: list[Any] = [None, 7, b"x", [], [[b"x"], [7, None]], [b"x", 7], [b"0", [7, None, [b"x"]]], [b"x"] * 3]
+        for said in strange:
+            store = RedisStore.__new__(RedisStore)
+            store.server, store.farm, store.folder, store.key = mock.Mock(), "t", mock.Mock(index=lambda digest: None), b"k"
+            store.server.call = lambda *words: said
+            store.server.calls = lambda commands: [said] * len(commands)
+            self.assertFalse(store.keeps_well())
+            with contextlib.suppress(FarmFault):
+                self.assertEqual(store.forget(set(), 0), (0, 0))
+            self.assertIsNone(store.index("0" * 64))
 
     def test_loads(self) -> None:
         """A server that still loads its data is waited for."""

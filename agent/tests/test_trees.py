@@ -1,6 +1,7 @@
 """Folders as contents, and back; what a store forgets."""
 from __future__ import annotations
 
+import errno
 import json
 import mmap
 import os
@@ -15,6 +16,7 @@ from unittest import mock
 from agent import trees
 from agent.chunks import chunk_names, chunk_path
 from agent.faults import FarmFault
+from agent.hints import make_key
 from agent.places import Places, Trash, check_apart, path_order, place_of
 from agent.standing import identity, signature
 from agent.store import FolderStore, put_file
@@ -488,7 +490,9 @@ class Paths(support.RoomTest):
 
     @unittest.skipUnless(os.path.exists("/dev/full"), "there is no /dev/full")
     def test_full(self) -> None:
-        """What a full disk refuses is told with the file's name."""
+        """What a full disk refuses is told with the file's name, and nothing of it stays."""
+        with mock.patch("os.fsync", side_effect=OSError(errno.ENOSPC, "No space")), self.assertRaisesRegex(OSError, f"No space.*{self.room}/key"):
+            make_key(self.path("key"))
         with mock.patch("os.fdopen", lambda handle, how: open("/dev/full", how)), self.assertRaisesRegex(OSError, f"No space.*{self.room}/f"):
             put_file(self.path("f"), b"x")
         self.assertEqual(os.listdir(self.room), [])
