@@ -13,7 +13,7 @@ use Rattle.events.specs.declared.answer.EventNote.{EventNote}
 use Rattle.events.specs.declared.answer.EventNote.TheVariants as note
 use Rattle.events.specs.declared.answer.EventRefusal.{EventRefusal}
 use Rattle.events.specs.declared.answer.Outcome.{Outcome}
-pub use Rattle.farmhistory.specs.declared.counts.Counts.{Counts}
+use Rattle.farmhistory.specs.declared.counts.Counts.{Counts}
 use Rattle.farmhistory.specs.History.{History}
 use Rattle.farmhistory.specs.Lines.{number_on}
 
