@@ -1,14 +1,17 @@
-ghost use Rattle.std.specs.Prelude.{◌≡◌, ◌≢◌, IfOk, IfSome, IfNone, OnErr};
+ghost use Rattle.std.specs.Prelude.{◌≡◌, ◌≢◌, ◌∷◌, [], drop, IfOk, IfSome, IfNone, OnErr};
+ghost use Rattle.std.specs.Hash.{on_Alike, same_Alike};
+ghost use Rattle.std.proofs.lemmas.Slice.Eq.{bytes_eq-Decides};
 ghost use Rattle.std.specs.String.{string_bytes};
 ghost use Rattle.hex.specs.Hex.{encode_lower, IsBytes};
 ghost use Rattle.names.specs.Digests.{IsDigest, digest_text, key_text};
 
 use std::alloc::{AllocError, Global};
+use std::hash::{Hash, Hasher};
 use std::str::FromStr;
 use thiserror::Error;
 
 /// The SHA-256 of some bytes.
-#[derive(Clone, Copy, PartialEq, Eq, PartialOrd, Ord, Hash)]
+#[derive(Clone, Copy, PartialEq, Eq, PartialOrd, Ord)]
 pub struct Digest(pub [u8; 32]);
 
 /// The solver key of a vertex.
@@ -63,6 +66,18 @@ impl Key {
         ensures { IfOk result (λ text. string_bytes text ≡ key_text self.now) }
     {
         hex::encode(alloc, self.0.0)
+    }
+}
+
+impl Hash for Digest {
+    ghost hash_input = { λ d. drop 24 d.0 ∷ [] };
+
+    ghost respects_eq = { (on_Alike (λ d. d.0) (same_Alike (λ bytes. drop 24 bytes ∷ []) bytes_eq-Decides)).fed };
+
+    // Its last eight bytes: what SHA-256 made needs no more mixing.
+    fn hash<H: Hasher>(&self, state: &mut H) {
+        let (_, last) = self.0.split_at(24);
+        state.write(last);
     }
 }
 

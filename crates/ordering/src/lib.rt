@@ -1,7 +1,6 @@
 //! The order in which vertices can be solved: each after its inputs, the lowest ready one first.
 #![tactic(auto)]
 
-mod last_bytes;
 pub mod laws;
 mod order_entries;
 mod ordering;

@@ -1,15 +1,13 @@
 ghost use Rattle.std.specs.Prelude.{◌≡◌, ◌++◌, ◌∷◌, ℕ, [], List, Some, length, if◌then◌else◌, OnOk, IfOk, IfSome, IfNone, slice_get, OnErr};
 
-use super::last_bytes::LastBytes;
 use names::Digest;
 use std::alloc::{AllocError, Global};
 use std::collections::HashMap;
-use std::hash::BuildHasherDefault;
 
 /// The vertices of a list of digests: the first place of each digest.
 #[derive(Drop)]
 pub struct Table {
-    numbers: HashMap<Digest, usize, BuildHasherDefault<LastBytes>>,
+    numbers: HashMap<Digest, usize>,
     places: Vec<usize>,
 }
 
@@ -23,7 +21,7 @@ impl Table {
         ensures places { places_in result ≡ [] }
     {
         Table {
-            numbers: HashMap::with_hasher(alloc, BuildHasherDefault::new()),
+            numbers: HashMap::new(alloc),
             places: Vec::new(alloc),
         }
     }
@@ -34,7 +32,7 @@ impl Table {
         ensures places { IfOk result (λ table. places_in table ≡ []) }
     {
         Ok(Table {
-            numbers: HashMap::with_capacity_and_hasher(alloc, expected, BuildHasherDefault::new())?,
+            numbers: HashMap::with_capacity(alloc, expected)?,
             places: Vec::with_capacity(alloc, expected)?,
         })
     }

@@ -7,6 +7,7 @@ use super::field::{Field, Value};
 use std::alloc::{AllocError, Global};
 
 /// What a field holds, if it has this number and is a varint.
+#[inline(always)]
 fn number_in(field: &Field<'_>, number: u32) -> Option<u64>
     ensures { result ≡ number_in number (entry field.now) }
 {
@@ -17,6 +18,7 @@ fn number_in(field: &Field<'_>, number: u32) -> Option<u64>
 }
 
 /// The body of a field, if it has this number and a body.
+#[inline(always)]
 pub fn body_in<'a>(field: &Field<'a>, number: u32) -> Option<&'a [u8]>
     ensures { option_map (λ body. body.now) result ≡ body_in number (entry field.now) }
 {
@@ -27,6 +29,7 @@ pub fn body_in<'a>(field: &Field<'a>, number: u32) -> Option<&'a [u8]>
 }
 
 /// The body of a field, if it is one of these members and has a body.
+#[inline(always)]
 fn member_in<'a>(field: &Field<'a>, members: &[u32]) -> Option<&'a [u8]>
     ensures { option_map (λ body. (field.now.number, body.now)) result ≡ member_in members.now (entry field.now) }
 {
