@@ -80,8 +80,9 @@ class Builder(Protocol):
     def drop_unnamed(self) -> list[str]:
         """Removes the images that lost their last name to such a tag, and nothing else. No build is under way. Which ones stay, and why."""
 
-    def sweep(self) -> None:
-        """Removes the containers and images that builds left which didn't end by themselves. None is under way."""
+    def sweep(self, rooms: list[str]) -> None:
+        """Removes the containers and images that builds left which didn't end by themselves, those of these rooms and others. None is
+        under way."""
 
 
 class Buildah:
@@ -147,7 +148,10 @@ class Buildah:
             os.unlink(lock)
 
     def built(self, image: Image) -> str:
-        with open(f"{image.room}/image") as file:
+        return self._built_in(image.room)
+
+    def _built_in(self, room: str) -> str:
+        with open(f"{room}/image") as file:
             return file.read().strip()
 
     def tag(self, name: str, tag: str) -> None:
@@ -209,15 +213,24 @@ class Buildah:
         below = [each for each in names if not names[each] and each not in shown and each not in self.unnamed]
         return next((each for each in below if (own := self._layers(each)) == layers[: len(own)]), None)
 
-    def sweep(self) -> None:
-        left = self._left()
-        if left:
+    def sweep(self, rooms: list[str]) -> None:
+        left, untagged = self._left(), self._untagged(rooms)
+        if left or untagged:
             with self._cleaning():
                 stages = self._stages(left)
-                self.unnamed.update(stages)
-                self._said("rm", *(container for container, _, _ in left))
-                for image in stages:
+                self.unnamed.update(untagged, stages)
+                if left:
+                    self._said("rm", *(container for container, _, _ in left))
+                for image in (*untagged, *stages):
                     self._drop(image)
+
+    def _untagged(self, rooms: list[str]) -> list[str]:
+        """The images that builds in these rooms had made when they were killed. One that has its tag already isn't removed."""
+        found = []
+        for room in rooms:
+            with contextlib.suppress(OSError, ValueError):
+                found.append(self._built_in(room))
+        return found
 
     def _left(self) -> list[tuple[str, str, float]]:
         """The containers of builds of the farm: each with the image that it begins with, and when its build began."""

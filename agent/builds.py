@@ -91,10 +91,11 @@ class Builds:
 
     def _sweep(self) -> None:
         if self.under_way == 0 and self.dirty:
+            rooms = [entry.path for entry in os.scandir(self.home)] if os.path.isdir(self.home) else []
+            self.builder.sweep(rooms)
             if os.path.isdir(self.home):
                 self.agent.places.trash.take(self.home)
                 self.agent.places.forget_within(self.home)
-            self.builder.sweep()
             self.dirty = False
 
     def leave(self, room: str, ended_well: bool) -> list[str]:

@@ -135,9 +135,22 @@ class Unnamed(support.RoomTest):
                 link.close()
         subprocess.run(["buildah", *self.builder.storage, "from", "--name", "user", user], check=True, capture_output=True)
         self.assertEqual(len(self.left()), 3)
-        self.builder.sweep()
+        self.builder.sweep([])
         self.assertEqual((self.builder.drop_unnamed(), self.left()), ([], {user}))
         self.assertEqual([each["containername"] for each in json.loads(self.builder._said("containers", "--json"))], ["user"])
+
+    def test_killed_before_its_tag(self) -> None:
+        """The image of a build that was killed before its tag goes; one that has its tag stays, and so do others."""
+        user, rooms = self.image(), [self.path("empty"), self.path("one"), self.path("two")]
+        for room in rooms[1:]:
+            self.write("f", room)
+            words, env = self.builder.command(Image(self.room, self.write("Dockerfile", "FROM scratch\nCOPY f /g\n"), room))
+            subprocess.run(words, env=env, check=True, capture_output=True)
+        tagged = self.read("two/image")
+        self.builder.tag(tagged, "app")
+        self.assertEqual(len(self.left()), 3)
+        self.builder.sweep(rooms)
+        self.assertEqual((self.builder.drop_unnamed(), self.left()), ([], {user, tagged}))
 
     def test_not_cleaned(self) -> None:
         """That images can't be removed is told, and they go another time."""
