@@ -43,12 +43,12 @@ def call(words: list[str], status: int = 0, read: str = os.devnull) -> float:
     return seconds
 
 
-def fastest(calls: list[list[str]], status: int = 0) -> list[float]:
-    """The least seconds of each call, made in turn."""
+def fastest(calls: list[list[str]], refused: int = 0) -> list[float]:
+    """The least seconds of each call, made in turn. The first ones are refused, as many as this."""
     least = [float("inf")] * len(calls)
     for _ in range(ROUNDS):
         for place, words in enumerate(calls):
-            least[place] = min(least[place], call(words, status))
+            least[place] = min(least[place], call(words, int(place < refused)))
     return least
 
 
@@ -137,7 +137,7 @@ def replay(room: Room) -> None:
         counts = [sized(count) for count in (4_096, 16_384, 65_535)]
         data = [turns(nodes, count) for count in counts]
         times = fastest([["replay", room.file(one)] for one in data])
-        reads = fastest([["replay", room.file(one + b"none\n")] for one in data], 1)
+        reads = fastest([["replay", room.file(one + b"none\n")] for one in data], len(data))
         each = [(took - read) / count for took, read, count in zip(times, reads, counts)]
         for count, one in zip(counts, each):
             print(f"replay, {count} events, nodes {nodes}: {1 / one:.0f} events/s, {one / each[0]:.2f} of an event of {counts[0]}", flush=True)
@@ -345,7 +345,7 @@ def save(room: Room) -> None:
     rounds = [[each.seconds(read) for each in filters for read in (os.devnull, each.said)] for _ in range(ROUNDS)]
     least = [min(times) for times in zip(*rounds)]
     starts, commits = least[::2], [(took - start) / sized(COMMITS) for start, took in zip(least[::2], least[1::2])]
-    block = block_seconds(room)
+    block = Hashing(room).block()
     for each, start, commit in list(zip(filters, starts, commits))[2:]:
         last = subprocess.check_output([PROGRAM, "record", each.path]).split()[-1]
         if not last.startswith(b"%d:" % (each.versions + sized(COMMITS))):
@@ -444,41 +444,49 @@ def diamonds(count: int) -> Definition:
     return made
 
 
-def block_seconds(room: Room) -> float:
-    """The seconds in which the program hashes a block."""
-    made = chain(1)
-    made.add(field(3, bytes(12 * MEBIBYTE // SMALLER)), made.digests)
-    refused = fastest([["check", room.file(made.unread())]], 1)[0]
-    return (fastest([["check", room.file(made.data())]])[0] - refused) / made.blocks
+class Hashing:
+    """What shows in how many seconds the program hashes a block: two calls, of which the first is refused, and the second hashes."""
+
+    def __init__(self, room: Room) -> None:
+        made = chain(1)
+        made.add(field(3, bytes(12 * MEBIBYTE // SMALLER)), made.digests)
+        self.blocks = made.blocks
+        self.refused, self.whole = ["check", room.file(made.unread())], ["check", room.file(made.data())]
+
+    def block(self) -> float:
+        refused, whole = fastest([self.refused, self.whole], 1)
+        return (whole - refused) / self.blocks
 
 
 def read(room: Room) -> None:
-    block = block_seconds(room)
-    least = fastest([["check", room.file(chain(1).unread())]], 1)[0]
+    hashing, first = Hashing(room), ["check", room.file(chain(1).unread())]
     for count, metadata in ((16_000, False), (6_000, True)):
         sizes = [sized(count), 4 * sized(count)]
         data = [chain(size).unread(metadata) for size in sizes]
-        times = [took - least for took in fastest([["check", room.file(each)] for each in data], 1)]
+        reads = [["check", room.file(each)] for each in data]
+        least, small, large, refused, whole = fastest([first, *reads, hashing.refused, hashing.whole], 4)
+        times, block = [small - least, large - least], (whole - refused) / hashing.blocks
         growth = times[1] / len(data[1]) / (times[0] / len(data[0]))
         for each, took in zip(data, times):
             ratio = took / (block * blocks(len(each)))
             print(f"read {len(each) / MEBIBYTE:.1f} MiB, metadata {metadata}: {len(each) / took / 1e6:.0f} MB/s, {ratio:.2f} of hashing", flush=True)
         print(f"growth for a byte, metadata {metadata}: {growth:.2f}", flush=True)
-    large = chain(sized(64_000)).unread()
-    print(f"read {sized(64_000)} entries: {memory(['check', room.file(large)]) / len(large):.2f} of their bytes at most in memory", flush=True)
+    entries = chain(sized(64_000)).unread()
+    print(f"read {sized(64_000)} entries: {memory(['check', room.file(entries)]) / len(entries):.2f} of their bytes at most in memory", flush=True)
 
 
 def keys(room: Room) -> None:
-    block = block_seconds(room)
+    hashing = Hashing(room)
     sizes = [sized(count) for count in (4_000, 16_000, 64_000)]
     graphs = [(f"a chain of {size}", chain(size)) for size in sizes]
     graphs += [(f"a wide graph of {sizes[1]}", wide(sizes[1])), (f"diamonds of {sizes[1]}", diamonds(sizes[1]))]
     graphs.append(("15 vertices of a mebibyte", chain(15, "0123456789abcdef" * (65_536 // SMALLER))))
     times = []
     for name, made in graphs:
-        file = room.file(made.data())
-        read = fastest([["check", room.file(made.unread())]], 1)[0]
-        checked, keyed = (took - read for took in fastest([["check", file], ["keys", file]]))
+        file, unread = room.file(made.data()), ["check", room.file(made.unread())]
+        read, refused, whole, *took = fastest([unread, hashing.refused, hashing.whole, ["check", file], ["keys", file]], 2)
+        checked, keyed = (each - read for each in took)
+        block = (whole - refused) / hashing.blocks
         print(f"check, {name}: {checked / (block * made.blocks):.2f} of the hashing; keys {keyed / checked:.2f} of check, {keyed * 1e3:.1f} ms", flush=True)
         times.append(keyed)
     growth = times[2] / sizes[2] / (times[0] / sizes[0])
