@@ -74,7 +74,7 @@ impl Hash for Digest {
 
     ghost respects_eq = { (on_Alike (λ d. d.0) (same_Alike (λ bytes. drop 24 bytes ∷ []) bytes_eq-Decides)).fed };
 
-    // Its last eight bytes: what SHA-256 made needs no more mixing.
+    // Its last eight bytes, in which two digests hardly ever agree.
     fn hash<H: Hasher>(&self, state: &mut H) {
         let (_, last) = self.0.split_at(24);
         state.write(last);
