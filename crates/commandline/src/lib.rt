@@ -5,9 +5,9 @@ use answers::{Command, Range};
 use clap::builder::ValueParser;
 use clap::error::ErrorKind;
 use clap::{Arg, ArgAction, ArgMatches, Error};
-use names::{EVENTS, NODES, NodeId};
+use names::{EVENTS, NODES};
 use opsproto::LIMIT;
-use processes::{CoordinatorPlace, NodePlace};
+use processcommands::{Process, coordinator_command, node_command};
 use std::alloc::{AllocError, Global};
 
 /// What `run` is asked to do.
@@ -25,10 +25,8 @@ pub enum Request<'a> {
     Print(Command),
     /// Builds definitions on a farm, and prints their answers.
     Run(Order<'a>),
-    /// Is the coordinator of a farm, and answers the lines of the standard input.
-    Coordinator(CoordinatorPlace<'a>),
-    /// Is a node of a farm, and answers the lines of the standard input.
-    Node(NodePlace<'a>),
+    /// Is a process of a farm, and answers the lines of the standard input.
+    Serve(Process<'a>),
 }
 
 impl Request<'_> {
@@ -227,91 +225,6 @@ fn run_command<'a>(alloc: Global) -> Result<clap::Command<'a>, AllocError> {
         .arg(files_arg(alloc))
 }
 
-/// What `coordinator` reads and prints.
-const COORDINATOR_LINES: &str =
-    "Prints `= started`, and then the answer to each line of the standard input, up to its end: lines `m SEALED` to be sent, \
-facts `: ..`, and last `= ` with what was done. A line is one of
-  m SEALED     what a node says, with its MAC under the farm's key
-  withdraw T   ends the lease of this ticket
-  retire N     hears this node no more
-  prune SLOT   empties this slot
-  nudge        sends grants again
-  status       shows who has what, and who waits
-  line SLOT    shows the versions of this slot
-  needed       shows the contents that must not be forgotten
-
-Status 4 with `fault Locked`: another process has the record.
-
-Example: head -c 32 /dev/urandom >key && echo status | farmctl coordinator --record kept --key key";
-
-/// A file or a folder that has to be named.
-fn place_arg<'a>(
-    alloc: Global,
-    name: &'static str,
-    value: &'static str,
-    help: &'static str,
-) -> Arg<'a> {
-    Arg::new(alloc, name)
-        .long(name)
-        .value_name(value)
-        .required(true)
-        .value_parser(ValueParser::NonEmptyString)
-        .help(help)
-}
-
-fn coordinator_command<'a>(alloc: Global) -> Result<clap::Command<'a>, AllocError> {
-    let record =
-        "The file of its record, made where it isn't there; a log and a lock stand beside it";
-    let key = "The file of the farm's key, of 32 bytes or more: the same for all processes";
-    clap::Command::new(alloc, "coordinator")
-        .about("Is the coordinator of a farm, whose nodes' lines come on the standard input")
-        .after_help(COORDINATOR_LINES)
-        .arg(place_arg(alloc, "record", "PATH", record))?
-        .arg(place_arg(alloc, "key", "FILE", key))
-}
-
-/// What `node` reads and prints.
-const NODE_LINES: &str =
-    "Prints `= life L` behind its greeting, and then the answer to each line of the standard input, up to its end: lines \
-`m SEALED` to be sent, facts `: ..`, and last `= ` with what was done. A line is one of
-  m SEALED               what another process says, with its MAC under the farm's key
-  ask [ro=]FOLDER..      asks for a lease of these folders
-  tenure FOLDER          asks for a lease under which many executions use a SHARED folder
-  begin T                the execution begins under the lease of this ticket
-  finish T SLOT=FILE..   it is over, and left these contents
-  abort T                it left nothing
-  resend                 sends again what is not answered
-  blob FILE              brings a content that this node needs
-  content DIGEST FILE    puts a content into this file
-  forget DIGEST          stores a content no longer
-  state A                shows how an ask stands
-
-Status 4 with `fault Locked`: another process is this node. After `= refused StoreFault` the process has to end.";
-
-/// The greatest number of a node that the farm will have, and the one of this node.
-fn number_arg<'a>(alloc: Global, name: &'static str, help: &'static str) -> Arg<'a> {
-    Arg::new(alloc, name)
-        .long(name)
-        .value_name("N")
-        .required(true)
-        .value_parser(ValueParser::Unsigned(1, NODES as u64))
-        .help(help)
-}
-
-fn node_command<'a>(alloc: Global) -> Result<clap::Command<'a>, AllocError> {
-    let nodes = "The greatest number of a node that the farm will have";
-    let store =
-        "The folder of its contents and its life, made where it isn't there; a lock stands beside it";
-    let key = "The file of the farm's key, of 32 bytes or more: the same for all processes";
-    clap::Command::new(alloc, "node")
-        .about("Is a node of a farm, whose agent's lines come on the standard input")
-        .after_help(NODE_LINES)
-        .arg(number_arg(alloc, "node", "The number of this node, from 1"))?
-        .arg(number_arg(alloc, "nodes", nodes))?
-        .arg(place_arg(alloc, "store", "DIR", store))?
-        .arg(place_arg(alloc, "key", "FILE", key))
-}
-
 /// What the program's help says below its commands.
 const NOTES: &str = "Without words it does `replay -`.
 
@@ -409,17 +322,10 @@ fn named<'a>(name: &str, found: &ArgMatches<'a>) -> Request<'a> {
             nodes: found.get_one("nodes").unwrap_or(1),
             record_path: found.get_str("record"),
         }),
-        "coordinator" => Request::Coordinator(CoordinatorPlace {
-            record: found.get_str("record").unwrap_or(""),
-            key: found.get_str("key").unwrap_or(""),
-        }),
-        "node" => Request::Node(NodePlace {
-            node: NodeId(found.get_one("node").unwrap_or(1)),
-            nodes: found.get_one("nodes").unwrap_or(1),
-            store: found.get_str("store").unwrap_or(""),
-            key: found.get_str("key").unwrap_or(""),
-        }),
-        _ => Request::Print(Command::Replay),
+        _ => match processcommands::named(name, found) {
+            Some(process) => Request::Serve(process),
+            None => Request::Print(Command::Replay),
+        },
     }
 }
 
@@ -466,7 +372,7 @@ fn disagreement(request: Request<'_>) -> Option<&'static str> {
         Request::Print(Command::Draw(range)) if range.last < range.first => Some(
             "--to is below --from",
         ),
-        Request::Node(place) if place.nodes < place.node.0 => Some("--node is above --nodes"),
+        Request::Serve(process) => processcommands::disagreement(process),
         _ => None,
     }
 }

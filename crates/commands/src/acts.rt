@@ -5,46 +5,21 @@ ghost use Rattle.std.specs.Io.KnownBytes.{Appends};
 ghost use Rattle.answers.specs.declared.failure.Failure.TheVariants as failures;
 ghost use Rattle.answers.specs.Answers.{IsAnswer, IsRefused};
 ghost use Rattle.answers.specs.Failures.{failure_line};
-ghost use Rattle.commands.specs.declared.acts.TheConstants.{DONE, REFUSED, FAULT};
+ghost use Rattle.processcommands.specs.declared.statuses.TheConstants.{DONE, REFUSED, FAULT};
 ghost use Rattle.commands.specs.Acts.{AnswersAll, FirstFault};
 
 use super::explain::{causes_told, copies_of, explained, push_log_fault};
 use super::files::{contents, kept};
-use super::processing::{be_node, coordinate};
 use super::running::run_scripts;
 use answers::{Command, Explanation, Failure, RefusedEvent, answer, events_told};
 use commandline::{Options, Order, Request, Words, words_of};
+use processcommands::{DONE, FAULT, MEMORY, REFUSED, print, print_usage};
 use std::alloc::{AllocError, Global};
 use std::fs::File;
 use std::io::{self, Write};
 use std::rt::{Clock, Files};
 use std::sync::Wait;
 use std::thread::Threads;
-
-/// The answer was printed.
-pub const DONE: u8 = 0;
-/// An input was refused, or can't be read.
-pub const REFUSED: u8 = 1;
-/// The words are not a command.
-pub const USAGE: u8 = 2;
-/// Memory ran out.
-pub const MEMORY: u8 = 3;
-/// The answer could not be written.
-pub const FAULT: u8 = 4;
-
-/// Writes a text, and returns the status, or `FAULT` if it can't be written.
-pub(crate) fn print<W: Write>(writer: &mut W, text: &str, status: u8) -> u8
-    ensures status { result ≢ FAULT → result ≡ status }
-    ensures printed { result ≢ FAULT → Appends (W.contents writer.old) (W.contents writer.new) text.now }
-{
-    match writer.write_all(text.as_bytes()) {
-        Ok(()) => match writer.flush() {
-            Ok(()) => status,
-            Err(_) => FAULT,
-        },
-        Err(_) => FAULT,
-    }
-}
 
 pub(crate) fn print_failure<E: Write>(alloc: Global, failure: Failure, err: &mut E) -> u8
     ensures not_done { result ≢ DONE }
@@ -153,17 +128,6 @@ pub fn act<O: Write, E: Write>(
         }
     }
     print(out, all.as_str(), DONE)
-}
-
-/// Says why there are no words: memory ran out, or one of them is not UTF-8.
-pub fn print_no_words<E: Write>(error: &io::Error, err: &mut E) -> u8
-    ensures { result ≢ DONE }
-{
-    if matches!(error.kind(), io::ErrorKind::OutOfMemory) {
-        print(err, "out of memory\n", MEMORY)
-    } else {
-        print(err, "error: a word that is not UTF-8\n", USAGE)
-    }
 }
 
 /// What there is to say of a file that was read, or can't be.
@@ -355,13 +319,9 @@ fn carry_out<
             told.explanation.lines.push_str(shown.lines.as_str())?;
             Ok((shown.status, shown.has_failed))
         }
-        Request::Coordinator(place) => {
+        Request::Serve(process) => {
             drop(inputs);
-            Ok((coordinate(rt, place, out, err), false))
-        }
-        Request::Node(place) => {
-            drop(inputs);
-            Ok((be_node(rt, place, out, err), false))
+            Ok((processcommands::carry_out(rt, process, out, err), false))
         }
     }
 }
@@ -393,23 +353,5 @@ pub fn run<
     match act_on(rt, &words, out, err) {
         Ok(status) => status,
         Err(_) => print(err, "out of memory\n", MEMORY),
-    }
-}
-
-fn print_usage<O: Write, E: Write>(
-    alloc: Global,
-    error: &clap::Error,
-    out: &mut O,
-    err: &mut E,
-) -> u8 {
-    let Ok(text) = error.to_string(alloc) else {
-        return print(err, "out of memory\n", MEMORY);
-    };
-    if matches!(error.kind(), clap::error::ErrorKind::OutOfMemory) {
-        print(err, "out of memory\n", MEMORY)
-    } else if error.use_stderr() {
-        print(err, text.as_str(), USAGE)
-    } else {
-        print(out, text.as_str(), DONE)
     }
 }

@@ -5,9 +5,9 @@
 mod acts;
 mod explain;
 mod files;
-mod processing;
 mod running;
 
-pub use acts::{DONE, FAULT, MEMORY, REFUSED, Told, USAGE, act, print_no_words, run};
+pub use acts::{Told, act, run};
 pub use explain::explained;
+pub use processcommands::{DONE, FAULT, MEMORY, REFUSED, USAGE, print_no_words, program_words};
 pub use running::{Ended, run_scripts, solve};

@@ -2,18 +2,19 @@
 ghost use Rattle.std.specs.Prelude.{◌≡◌, ◌≢◌, ◌+◌, ◌++◌, ◌∷◌, [], ℕ, List, length, map, None, IfOk, IfErr, IfSome, IfNone, OnOk};
 ghost use Rattle.std.specs.String.{string_bytes};
 ghost use Rattle.std.specs.Io.KnownBytes.{Appends};
-ghost use Rattle.commands.specs.declared.acts.TheConstants.{DONE, FAULT, REFUSED};
+ghost use Rattle.processcommands.specs.declared.statuses.TheConstants.{DONE, FAULT, REFUSED};
 ghost use Rattle.commands.specs.declared.running.InputFault.TheVariants as inputs;
 ghost use Rattle.answers.specs.Answers.{SpellsGraph, IsNoGraph};
 ghost use Rattle.commands.specs.Runs.{job_line, job_lines, commits_line, names_of, IsRunOf, IsRecordOf};
 
-use super::acts::{DONE, FAULT, MEMORY, REFUSED, print, print_failure, print_unreadable};
+use super::acts::{print_failure, print_unreadable};
 use answers::{Failure, graph_of};
 use commandline::Order;
 use farm::{Executor, FailedJob, Farm, FarmEnd, FarmFault, FarmStop, OpenGate};
 use farm_base::NodeId;
 use filekeeper::FileKeeper;
 use jobs::Answer;
+use processcommands::{DONE, FAULT, MEMORY, REFUSED, print};
 use schedule::Setup;
 use scripted::Scripted;
 use solverkeys::Keyed;

@@ -2,8 +2,6 @@
 
 use farm_base::{Digest, Items, Text};
 use opsproto::{CacheOpt, ExecOp, Input, Meta, Mount, Op, read_definition};
-use protowire::put_bytes;
-use sha2::Sha256;
 use std::alloc::{AllocError, Global};
 use std::test::Fail;
 use vertices::Graph;
@@ -30,51 +28,27 @@ pub fn digests(alloc: Global, bytes: &[u8]) -> Result<Vec<Digest>, AllocError> {
     Ok(digests)
 }
 
-/// The text of an op's digest.
-pub fn digest_text(alloc: Global, op: &[u8]) -> Result<Text, AllocError> {
-    let digest = Digest(<Sha256 as sha2::Digest>::digest(op));
-    Ok(Text::new(digest.to_text(alloc)?))
-}
-
-/// A mount that gives no output and isn't a cache mount.
-fn mount(alloc: Global, input: i64, dest: &str, readonly: bool) -> Result<Mount, AllocError> {
+/// A mount at this place.
+fn mount(alloc: Global, dest: &str, output: i64) -> Result<Mount, AllocError> {
     Ok(Mount {
-        input,
+        input: -1,
         selector: text(alloc, "")?,
         dest: text(alloc, dest)?,
-        output: -1,
-        readonly,
+        output,
+        readonly: false,
         mount_type: 0,
         cache: None,
     })
 }
 
-/// The root mount, which gives output 0, and these cache mounts.
-fn mounts(
-    alloc: Global,
-    caches: &[(i64, &str, &str, bool)],
-    sharing: i32,
-) -> Result<Vec<Mount>, AllocError> {
-    let mut root = mount(alloc, -1, "/", false)?;
-    root.output = 0;
-    let mut mounts = vec![in alloc; root]?;
-    for cache in caches {
-        mounts.push(cache_mount(alloc, *cache, sharing)?)?;
-    }
-    Ok(mounts)
-}
-
-/// A cache mount: its input, its dest, its id, and whether it is readonly.
-fn cache_mount(
-    alloc: Global,
-    (input, dest, id, readonly): (i64, &str, &str, bool),
-    sharing: i32,
-) -> Result<Mount, AllocError> {
-    let id = text(alloc, id)?;
-    let mut cache = mount(alloc, input, dest, readonly)?;
+/// The root mount, which gives output 0, and a cache mount.
+fn mounts(alloc: Global) -> Result<Vec<Mount>, AllocError> {
+    let root = mount(alloc, "/", 0)?;
+    let mut cache = mount(alloc, "/go/pkg/mod", -1)?;
+    let id = text(alloc, "")?;
     cache.mount_type = 3;
-    cache.cache = Some(CacheOpt { id, sharing });
-    Ok(cache)
+    cache.cache = Some(CacheOpt { id, sharing: 3 });
+    vec![in alloc; root, cache]
 }
 
 /// The command `x`.
@@ -87,14 +61,9 @@ fn meta(alloc: Global) -> Result<Meta, AllocError> {
     })
 }
 
-/// The exec op that runs `x` with a root mount and these cache mounts, all of one sharing. Of each its input, its dest,
-/// its id, and whether it is readonly.
-fn exec(
-    alloc: Global,
-    caches: &[(i64, &str, &str, bool)],
-    sharing: i32,
-) -> Result<ExecOp, AllocError> {
-    let mounts = mounts(alloc, caches, sharing)?;
+/// The exec op of `CACHED`.
+fn exec(alloc: Global) -> Result<ExecOp, AllocError> {
+    let mounts = mounts(alloc)?;
     Ok(ExecOp {
         meta: Some(meta(alloc)?),
         mounts: Items::new(mounts),
@@ -103,14 +72,9 @@ fn exec(
     })
 }
 
-/// An op of this exec op with these inputs.
-pub fn exec_op(
-    alloc: Global,
-    inputs: Vec<Input>,
-    caches: &[(i64, &str, &str, bool)],
-    sharing: i32,
-) -> Result<Op, AllocError> {
-    let exec = exec(alloc, caches, sharing)?;
+/// An op of it with these inputs.
+pub fn exec_op(alloc: Global, inputs: Vec<Input>) -> Result<Op, AllocError> {
+    let exec = exec(alloc)?;
     Op::exec(alloc, inputs, &exec)
 }
 
@@ -118,36 +82,4 @@ pub fn exec_op(
 pub fn load(alloc: Global, bytes: Vec<u8>) -> Result<Box<Graph>, Fail> {
     let graph = vertices::load(alloc, read_definition(alloc, bytes)?)?;
     Ok(Box::new(alloc, graph)?)
-}
-
-/// The entry that names an op's output 0 as the result.
-fn result_of(alloc: Global, op: &[u8]) -> Result<Vec<u8>, Fail> {
-    let digest = digest_text(alloc, op)?;
-    let mut input = Vec::new(alloc);
-    put_bytes(&mut input, 1, digest.as_str().as_bytes())?;
-    let mut entry = Vec::new(alloc);
-    put_bytes(&mut entry, 1, &input)?;
-    Ok(entry)
-}
-
-/// Appends entries to a definition.
-fn put_entries(definition: &mut Vec<u8>, entries: &[Vec<u8>]) -> Result<(), AllocError> {
-    for entry in entries {
-        put_bytes(definition, 1, entry)?;
-    }
-    Ok(())
-}
-
-/// The definition of some ops, of which the last gives the result.
-fn definition_of(alloc: Global, ops: &[Vec<u8>]) -> Result<Vec<u8>, Fail> {
-    let result = result_of(alloc, ops.last().ok_or("no op")?)?;
-    let mut bytes = Vec::new(alloc);
-    put_entries(&mut bytes, ops)?;
-    put_bytes(&mut bytes, 1, &result)?;
-    Ok(bytes)
-}
-
-/// The graph of some ops, of which the last gives the result.
-pub fn graph_of(alloc: Global, ops: &[Vec<u8>]) -> Result<Box<Graph>, Fail> {
-    load(alloc, definition_of(alloc, ops)?)
 }

@@ -19,8 +19,6 @@ mod keepers;
 #[cfg(test)]
 mod messages;
 #[cfg(test)]
-mod mounts;
-#[cfg(test)]
 mod ops;
 #[cfg(test)]
 mod orders;

@@ -165,7 +165,7 @@ fn op_with_input(alloc: Global) -> Result<Op, AllocError> {
         index: -1,
     };
     let inputs = vec![in alloc; input]?;
-    exec_op(alloc, inputs, &[(-1, "/go/pkg/mod", "", false)], 3)
+    exec_op(alloc, inputs)
 }
 
 /// The same as it is written.

@@ -1,9 +1,10 @@
-//! The processes of a farm.
+//! What the commands do.
 ghost use Rattle.std.specs.Prelude.{◌≢◌};
-ghost use Rattle.commands.specs.declared.acts.TheConstants.{DONE};
+ghost use Rattle.processcommands.specs.declared.statuses.TheConstants.{DONE};
 
-use super::acts::{DONE, FAULT, MEMORY, REFUSED, print};
-use processes::{Cause, CoordinatorPlace, NodePlace, ProcessFault, run_coordinator, run_node};
+use super::statuses::{DONE, FAULT, MEMORY, REFUSED, print, print_usage};
+use super::words::{Process, process_of};
+use processes::{Cause, ProcessFault, run_coordinator, run_node};
 use std::alloc::Global;
 use std::fs::File;
 use std::io::Write;
@@ -32,27 +33,31 @@ fn print_process_fault<E: Write>(alloc: Global, fault: &ProcessFault, err: &mut 
     }
 }
 
-/// Is the coordinator of a farm, up to the end of the standard input.
-pub(crate) fn coordinate<R: Files<File = File> + Input + AllocGlobal, O: Write, E: Write>(
-    rt: &R,
-    place: CoordinatorPlace<'_>,
-    out: &mut O,
-    err: &mut E,
-) -> u8 {
-    match run_coordinator(rt, place, out) {
+/// Is this process of a farm, up to the end of the standard input.
+pub fn carry_out<
+    R: Files<File = File> + Input + Clock + AllocGlobal + Clone + Drop,
+    O: Write,
+    E: Write,
+>(rt: &R, process: Process<'_>, out: &mut O, err: &mut E) -> u8 {
+    let ended = match process {
+        Process::Coordinator(place) => run_coordinator(rt, place, out),
+        Process::Node(place) => run_node(rt, place, out),
+    };
+    match ended {
         Ok(()) => DONE,
         Err(fault) => print_process_fault(rt.alloc(), &fault, err),
     }
 }
 
-/// Is a node of a farm, up to the end of the standard input.
-pub(crate) fn be_node<
-    R: Files<File = File> + Input + Clock + AllocGlobal + Clone + Drop,
-    O: Write,
-    E: Write,
->(rt: &R, place: NodePlace<'_>, out: &mut O, err: &mut E) -> u8 {
-    match run_node(rt, place, out) {
-        Ok(()) => DONE,
-        Err(fault) => print_process_fault(rt.alloc(), &fault, err),
+/// Does what the words say. The texts of usage faults and help are `clap`'s.
+pub fn run<R: Files<File = File> + Input + Clock + AllocGlobal + Clone + Drop, O: Write, E: Write>(
+    rt: &R,
+    words: &[String],
+    out: &mut O,
+    err: &mut E,
+) -> u8 {
+    match process_of(rt.alloc(), words) {
+        Ok(process) => carry_out(rt, process, out, err),
+        Err(error) => print_usage(rt.alloc(), &error, out, err),
     }
 }

@@ -1,0 +1,163 @@
+//! The words of the commands.
+
+use clap::builder::ValueParser;
+use clap::error::ErrorKind;
+use clap::{Arg, ArgMatches, Error};
+use names::{NODES, NodeId};
+use processes::{CoordinatorPlace, NodePlace};
+use std::alloc::{AllocError, Global};
+
+/// A process of a farm, which answers the lines of the standard input.
+#[derive(Clone, Copy)]
+pub enum Process<'a> {
+    Coordinator(CoordinatorPlace<'a>),
+    Node(NodePlace<'a>),
+}
+
+/// What `coordinator` reads and prints.
+const COORDINATOR_LINES: &str =
+    "Prints `= started`, and then the answer to each line of the standard input, up to its end: lines `m SEALED` to be sent, \
+facts `: ..`, and last `= ` with what was done. A line is one of
+  m SEALED     what a node says, with its MAC under the farm's key
+  withdraw T   ends the lease of this ticket
+  retire N     hears this node no more
+  prune SLOT   empties this slot
+  nudge        sends grants again
+  status       shows who has what, and who waits
+  line SLOT    shows the versions of this slot
+  needed       shows the contents that must not be forgotten
+
+Status 4 with `fault Locked`: another process has the record.
+
+Example: head -c 32 /dev/urandom >key && echo status | farmctl coordinator --record kept --key key";
+
+/// A file or a folder that has to be named.
+fn place_arg<'a>(
+    alloc: Global,
+    name: &'static str,
+    value: &'static str,
+    help: &'static str,
+) -> Arg<'a> {
+    Arg::new(alloc, name)
+        .long(name)
+        .value_name(value)
+        .required(true)
+        .value_parser(ValueParser::NonEmptyString)
+        .help(help)
+}
+
+/// The command `coordinator`.
+pub fn coordinator_command<'a>(alloc: Global) -> Result<clap::Command<'a>, AllocError> {
+    let record =
+        "The file of its record, made where it isn't there; a log and a lock stand beside it";
+    let key = "The file of the farm's key, of 32 bytes or more: the same for all processes";
+    clap::Command::new(alloc, "coordinator")
+        .about("Is the coordinator of a farm, whose nodes' lines come on the standard input")
+        .after_help(COORDINATOR_LINES)
+        .arg(place_arg(alloc, "record", "PATH", record))?
+        .arg(place_arg(alloc, "key", "FILE", key))
+}
+
+/// What `node` reads and prints.
+const NODE_LINES: &str =
+    "Prints `= life L` behind its greeting, and then the answer to each line of the standard input, up to its end: lines \
+`m SEALED` to be sent, facts `: ..`, and last `= ` with what was done. A line is one of
+  m SEALED               what another process says, with its MAC under the farm's key
+  ask [ro=]FOLDER..      asks for a lease of these folders
+  tenure FOLDER          asks for a lease under which many executions use a SHARED folder
+  begin T                the execution begins under the lease of this ticket
+  finish T SLOT=FILE..   it is over, and left these contents
+  abort T                it left nothing
+  resend                 sends again what is not answered
+  blob FILE              brings a content that this node needs
+  content DIGEST FILE    puts a content into this file
+  forget DIGEST          stores a content no longer
+  state A                shows how an ask stands
+
+Status 4 with `fault Locked`: another process is this node. After `= refused StoreFault` the process has to end.";
+
+/// The greatest number of a node that the farm will have, and the one of this node.
+fn number_arg<'a>(alloc: Global, name: &'static str, help: &'static str) -> Arg<'a> {
+    Arg::new(alloc, name)
+        .long(name)
+        .value_name("N")
+        .required(true)
+        .value_parser(ValueParser::Unsigned(1, NODES as u64))
+        .help(help)
+}
+
+/// The command `node`.
+pub fn node_command<'a>(alloc: Global) -> Result<clap::Command<'a>, AllocError> {
+    let nodes = "The greatest number of a node that the farm will have";
+    let store =
+        "The folder of its contents and its life, made where it isn't there; a lock stands beside it";
+    let key = "The file of the farm's key, of 32 bytes or more: the same for all processes";
+    clap::Command::new(alloc, "node")
+        .about("Is a node of a farm, whose agent's lines come on the standard input")
+        .after_help(NODE_LINES)
+        .arg(number_arg(alloc, "node", "The number of this node, from 1"))?
+        .arg(number_arg(alloc, "nodes", nodes))?
+        .arg(place_arg(alloc, "store", "DIR", store))?
+        .arg(place_arg(alloc, "key", "FILE", key))
+}
+
+/// The process that the command of this name asks for, if it asks for one.
+pub fn named<'a>(name: &str, found: &ArgMatches<'a>) -> Option<Process<'a>> {
+    match name {
+        "coordinator" => Some(Process::Coordinator(CoordinatorPlace {
+            record: found.get_str("record").unwrap_or(""),
+            key: found.get_str("key").unwrap_or(""),
+        })),
+        "node" => Some(Process::Node(NodePlace {
+            node: NodeId(found.get_one("node").unwrap_or(1)),
+            nodes: found.get_one("nodes").unwrap_or(1),
+            store: found.get_str("store").unwrap_or(""),
+            key: found.get_str("key").unwrap_or(""),
+        })),
+        _ => None,
+    }
+}
+
+/// What words that are sound one by one say wrong together, if they do.
+pub fn disagreement(process: Process<'_>) -> Option<&'static str> {
+    match process {
+        Process::Node(place) if place.nodes < place.node.0 => Some("--node is above --nodes"),
+        _ => None,
+    }
+}
+
+/// What the help of the program of these two commands says below them.
+const NOTES: &str =
+    "Both are what they are in `farmctl`, which has more commands, and end with the same statuses.";
+
+/// The program of these two commands alone.
+fn farmd<'a>(alloc: Global) -> Result<clap::Command<'a>, AllocError> {
+    let coordinator = coordinator_command(alloc)?;
+    let node = node_command(alloc)?;
+    clap::Command::new(alloc, "farmd")
+        .bin_name("farmd")?
+        .version("0.1.0")
+        .about("The processes of a container build farm: its coordinator, and its nodes")
+        .after_help(NOTES)
+        .no_binary_name(true)
+        .subcommand_required(true)
+        .subcommand(coordinator)?
+        .subcommand(node)
+}
+
+/// The process that the words ask for. An error is a usage fault, the help that was asked for, or out of memory.
+pub(crate) fn process_of<'a>(alloc: Global, words: &'a [String]) -> Result<Process<'a>, Error> {
+    let mut program = farmd(alloc)?;
+    let matches = program.try_get_matches_from_mut(words)?;
+    let found = match matches.subcommand() {
+        Some((name, found)) => named(name, found),
+        None => None,
+    };
+    let Some(process) = found else {
+        return Err(program.error(ErrorKind::MissingSubcommand, "a command is wanted")?);
+    };
+    match disagreement(process) {
+        Some(said) => Err(program.error(ErrorKind::ValueValidation, said)?),
+        None => Ok(process),
+    }
+}
