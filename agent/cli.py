@@ -182,9 +182,9 @@ def start_farm(home: str) -> None:
     """Starts a farm of one node in a process of its own, which ends where nobody uses it."""
     import subprocess
 
-    from agent.tools import TOP, farmctl
+    from agent.tools import TOP, farm_program
 
-    env = os.environ | {"FARMCTL": farmctl()}  # a missing program is told here, and not in the farm's log; its path may be one from here
+    env = os.environ | {"FARMCTL": farm_program()}  # a missing program is told here, and not in the farm's log; its path may be one from here
     os.makedirs(home, mode=0o700, exist_ok=True)
     tell(f"no farm runs in {home}: one of one node is started")
     words = [sys.executable, "-IS", os.path.join(TOP, "farm"), "up", "--home", home, "--nodes", "1", "--while-used", "--verbose"]

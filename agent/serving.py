@@ -26,7 +26,7 @@ from agent.redis_transport import RedisTransport
 from agent.runs import Job, Run
 from agent.service import Connection, Handler, Service
 from agent.store import FolderStore, Store, is_old
-from agent.tools import farmctl
+from agent.tools import farm_program
 from agent.transport import LocalTransport, Transport
 from agent.words import DIGEST, want_of
 
@@ -115,7 +115,7 @@ def check_contents(folder: str, hints: Hints) -> None:
 
 def setup_of(wanted: Wanted) -> Setup:
     check(wanted)
-    program = farmctl()
+    program = farm_program()
     os.makedirs(wanted.home, mode=0o700, exist_ok=True)
     key = make_key(f"{wanted.home}/key")
     hints = Hints(key)

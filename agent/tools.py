@@ -14,6 +14,7 @@ from agent.faults import Missing
 
 PACKAGES = {"ip": "iproute2"}  # where a package has another name
 TOP = os.path.dirname(os.path.dirname(os.path.abspath(__file__)))
+PROGRAMS = ("farmd", "farmctl")  # each has both filters
 LOOK = 0.2  # seconds after which it is seen that nobody waits any more
 
 
@@ -25,18 +26,19 @@ def need(tool: str) -> str:
     return found
 
 
-def farmctl() -> str:
-    """The program whose processes decide."""
+def farm_program() -> str:
+    """The program whose processes decide: of those that are built the one that was built last."""
     given = os.environ.get("FARMCTL")
     if given:
         found = shutil.which(given)
         if not found:
             raise Missing(f"the farm's program isn't there, or can't be run: FARMCTL names {given}")
         return os.path.abspath(found)
-    built = os.path.join(TOP, "crates", "farmctl", "out", "farmctl")
-    if not os.access(built, os.X_OK):
-        raise Missing("the farm's program isn't built yet: ./farmctl --help proves and builds it, once")
-    return built
+    places = [os.path.join(TOP, "crates", name, "out", name) for name in PROGRAMS]
+    built = [place for place in places if os.access(place, os.X_OK)]
+    if not built:
+        raise Missing("the farm's program isn't built yet: ./farmd --help proves and builds it, once")
+    return max(built, key=os.path.getmtime)
 
 
 def why(done: subprocess.CompletedProcess[str]) -> str:

@@ -22,7 +22,7 @@ sys.dont_write_bytecode = True
 sys.path.insert(0, str(Path(__file__).resolve().parents[2]))
 
 from agent.executions import can_have_namespaces  # noqa: E402
-from agent.tools import TOP, farmctl  # noqa: E402
+from agent.tools import TOP, farm_program  # noqa: E402
 from agent.trials.farms import PYTHON_FARM  # noqa: E402
 
 MOST = 700  # lines of a trial that failed
@@ -228,7 +228,7 @@ def attempt_again(trial: Callable[[str], str]) -> str:
 
 
 def main() -> int:
-    farmctl()
+    farm_program()
     hows = [attempt_again(trial) for trial in TRIALS if not sys.argv[1:] or trial.__name__ in sys.argv[1:]]
     failed = hows.count("failed") + hows.count("wrong")
     print(f"the agent over the program: {hows.count('passed')} passed, {failed} failed, {hows.count('skipped')} skipped")

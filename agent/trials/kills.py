@@ -21,7 +21,7 @@ sys.dont_write_bytecode = True
 sys.path.insert(0, str(Path(__file__).resolve().parents[2]))
 
 from agent.lines import Answer, Filter, FilterGone  # noqa: E402
-from agent.tools import TOP, farmctl  # noqa: E402
+from agent.tools import TOP, farm_program  # noqa: E402
 from agent.trials.talks import KEY, KINDS, Conversation, Filling, Step, WithFullLog, Wrong, expect  # noqa: E402
 
 WAYS = ("before", "half", "cut", "names", "full", "fuller", "later1", "later2", "later3", "later4", "dying8", "again1", "again2", "again3", "again4")  # as killed.c has them
@@ -51,7 +51,7 @@ class Trial:
         self.close()
         self.is_disturbed = bool(self.to_come)
         try:
-            self.filter = Filter(["env", *(self.to_come.pop(0) if self.to_come else []), farmctl(), *self.talk.words])
+            self.filter = Filter(["env", *(self.to_come.pop(0) if self.to_come else []), farm_program(), *self.talk.words])
         except FilterGone as gone:
             expect(self.is_disturbed, f"it doesn't start again: {gone.said}")
             expect(gone.status in (-9, 4), f"it doesn't start, with status {gone.status}: {gone.said}")

@@ -23,7 +23,7 @@ sys.dont_write_bytecode = True
 sys.path.insert(0, str(Path(__file__).resolve().parents[2]))
 
 from agent.tests.support import redis_server  # noqa: E402
-from agent.tools import TOP, farmctl  # noqa: E402
+from agent.tools import TOP, farm_program  # noqa: E402
 from agent.trials.farms import children  # noqa: E402
 from agent.trials.gate import farm_up  # noqa: E402
 
@@ -120,7 +120,7 @@ def many(room: str) -> None:
             run = [FARM, "run", "--home", home, "--node", str(node), "--folder", f"locked:many={room}/w{node}", "--", "python3", "-c", write, f"{room}/w{node}", str(every)]
             watched = Watched(agent)
             took = seconds(run)
-            memory = watched.end("agent", "casync", os.path.basename(farmctl())[:15])  # as much of a name as the kernel tells
+            memory = watched.end("agent", "casync", os.path.basename(farm_program())[:15])  # as much of a name as the kernel tells
             before, kept = kept, size_of(f"{home}/contents/chunks")
             row(f"2 GB, 50,000 files: {name}", f"{took:.1f} s", f"{(kept - before) / 1e6:,.0f} MB of new chunks", memory)
 

@@ -29,7 +29,7 @@ from typing import Iterator
 sys.dont_write_bytecode = True
 sys.path.insert(0, str(Path(__file__).resolve().parents[2]))
 
-from agent.tools import farmctl  # noqa: E402
+from agent.tools import farm_program  # noqa: E402
 from agent.tests.support import free_port  # noqa: E402
 
 CLIENTS = (1, 8, 64)
@@ -85,7 +85,7 @@ def farm(room: str, clients: int, seconds: float) -> Measured:
     """Each client has a node and a folder, and says its next line once the last one is answered."""
     with open(f"{room}/key", "wb") as file:
         file.write(KEY)
-    words = [farmctl(), "coordinator", "--record", f"{room}/record", "--key", f"{room}/key"]
+    words = [farm_program(), "coordinator", "--record", f"{room}/record", "--key", f"{room}/key"]
     with subprocess.Popen(words, stdin=subprocess.PIPE, stdout=subprocess.PIPE, bufsize=0) as process:
         assert process.stdin and process.stdout
         inlet, outlet = process.stdin.fileno(), process.stdout.fileno()

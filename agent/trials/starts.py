@@ -19,7 +19,7 @@ sys.dont_write_bytecode = True
 sys.path.insert(0, str(Path(__file__).resolve().parents[2]))
 
 from agent.lines import Answer, Filter, FilterGone  # noqa: E402
-from agent.tools import farmctl  # noqa: E402
+from agent.tools import farm_program  # noqa: E402
 from agent.trials.talks import KEY, Wrong, digest_of, expect, from_outside  # noqa: E402
 
 NOBODY = ["setpriv", "--reuid=65534", "--regid=65534", "--clear-groups"]  # to root no folder is read-only
@@ -34,7 +34,7 @@ class Room:
         self.path = os.path.realpath(tempfile.mkdtemp(prefix="farm-starts-"))
         os.chmod(self.path, 0o755)
         self.others: list[Filter] = []
-        shutil.copy(farmctl(), f"{self.path}/farmctl")  # where nobody may call it
+        shutil.copy(farm_program(), f"{self.path}/farmctl")  # where nobody may call it
         self.write("key", KEY.encode())
         self.write("content", CONTENT)
         coordinator, node = self.start("coordinator"), self.start("node")

@@ -7,7 +7,7 @@ use clap::error::ErrorKind;
 use clap::{Arg, ArgAction, ArgMatches, Error};
 use names::{EVENTS, NODES};
 use opsproto::LIMIT;
-use processcommands::{Process, coordinator_command, node_command};
+use processcommands::{Process, coordinator_command, node_command, with};
 use std::alloc::{AllocError, Global};
 
 /// What `run` is asked to do.
@@ -236,15 +236,6 @@ Status:
   4  the answer could not be written, or a run or a process ended with a fault
 
 Example: farmctl replay examples/fenced.schedule";
-
-/// The program with one more command, where there is memory for it.
-fn with<'a>(
-    program: clap::Command<'a>,
-    command: Result<clap::Command<'a>, AllocError>,
-) -> Result<clap::Command<'a>, AllocError> {
-    let command = command?;
-    program.subcommand(command)
-}
 
 /// The program with the commands that read a build definition.
 fn with_definitions<'a>(

@@ -44,11 +44,13 @@ fn mount(alloc: Global, dest: &str, output: i64) -> Result<Mount, AllocError> {
 /// The root mount, which gives output 0, and a cache mount.
 fn mounts(alloc: Global) -> Result<Vec<Mount>, AllocError> {
     let root = mount(alloc, "/", 0)?;
+    let mut mounts = vec![in alloc; root]?;
     let mut cache = mount(alloc, "/go/pkg/mod", -1)?;
     let id = text(alloc, "")?;
     cache.mount_type = 3;
     cache.cache = Some(CacheOpt { id, sharing: 3 });
-    vec![in alloc; root, cache]
+    mounts.push(cache)?;
+    Ok(mounts)
 }
 
 /// The command `x`.

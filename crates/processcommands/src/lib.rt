@@ -10,4 +10,4 @@ pub use processes::{CoordinatorPlace, NodePlace};
 pub use statuses::{
     DONE, FAULT, MEMORY, REFUSED, USAGE, print, print_no_words, print_usage, program_words,
 };
-pub use words::{Process, coordinator_command, disagreement, named, node_command};
+pub use words::{Process, coordinator_command, disagreement, named, node_command, with};

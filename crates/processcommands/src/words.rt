@@ -130,34 +130,57 @@ pub fn disagreement(process: Process<'_>) -> Option<&'static str> {
 const NOTES: &str =
     "Both are what they are in `farmctl`, which has more commands, and end with the same statuses.";
 
-/// The program of these two commands alone.
-fn farmd<'a>(alloc: Global) -> Result<clap::Command<'a>, AllocError> {
-    let coordinator = coordinator_command(alloc)?;
-    let node = node_command(alloc)?;
-    clap::Command::new(alloc, "farmd")
+/// The program with one more command, where there is memory for it.
+pub fn with<'a>(
+    program: clap::Command<'a>,
+    command: Result<clap::Command<'a>, AllocError>,
+) -> Result<clap::Command<'a>, AllocError> {
+    let command = command?;
+    program.subcommand(command)
+}
+
+/// The program without its commands.
+fn bare_program<'a>(alloc: Global) -> Result<clap::Command<'a>, AllocError> {
+    let program = clap::Command::new(alloc, "farmd")
         .bin_name("farmd")?
         .version("0.1.0")
         .about("The processes of a container build farm: its coordinator, and its nodes")
         .after_help(NOTES)
         .no_binary_name(true)
-        .subcommand_required(true)
-        .subcommand(coordinator)?
-        .subcommand(node)
+        .subcommand_required(true);
+    Ok(program)
+}
+
+/// The program of these two commands alone.
+fn farmd<'a>(alloc: Global) -> Result<clap::Command<'a>, AllocError> {
+    let program = bare_program(alloc)?;
+    let program = with(program, coordinator_command(alloc))?;
+    with(program, node_command(alloc))
+}
+
+/// The process that words ask for.
+fn asked<'a>(matches: &ArgMatches<'a>) -> Option<Process<'a>> {
+    let (name, found) = matches.subcommand()?;
+    named(name, found)
+}
+
+/// The process that the program is asked for by these words.
+fn parsed<'a>(program: &mut clap::Command<'a>, words: &'a [String]) -> Result<Process<'a>, Error> {
+    let matches = program.try_get_matches_from_mut(words)?;
+    let found = asked(&matches);
+    drop(matches);
+    let said = match found {
+        Some(process) => disagreement(process),
+        None => Some("a command is wanted"),
+    };
+    match (found, said) {
+        (Some(process), None) => Ok(process),
+        (_, said) => Err(program.error(ErrorKind::ValueValidation, said.unwrap_or(""))?),
+    }
 }
 
 /// The process that the words ask for. An error is a usage fault, the help that was asked for, or out of memory.
 pub(crate) fn process_of<'a>(alloc: Global, words: &'a [String]) -> Result<Process<'a>, Error> {
     let mut program = farmd(alloc)?;
-    let matches = program.try_get_matches_from_mut(words)?;
-    let found = match matches.subcommand() {
-        Some((name, found)) => named(name, found),
-        None => None,
-    };
-    let Some(process) = found else {
-        return Err(program.error(ErrorKind::MissingSubcommand, "a command is wanted")?);
-    };
-    match disagreement(process) {
-        Some(said) => Err(program.error(ErrorKind::ValueValidation, said)?),
-        None => Ok(process),
-    }
+    parsed(&mut program, words)
 }
