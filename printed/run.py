@@ -3,8 +3,8 @@
 
 usage: [FARMCTL=PROGRAM] [CALL_SECONDS=N] printed/run.py [TABLE..]
 
-Without FARMCTL it is the program that the gate builds; a call may take 60 seconds, and one of a build that isn't proved needs more. A table
-is a file `TABLE.cases` of blocks, parted by an empty line. The first word of a line says what it is:
+Without FARMCTL it is the farmctl that the gate builds; `processes.cases` is farmd's too. A call may take 60 seconds, and one of a build
+that isn't proved needs more. A table is a file `TABLE.cases` of blocks, parted by an empty line. The first word of a line says what it is:
 
     # ..                   a comment
     text NAME LINE; LINE   adds text to a file: `; ` is a line feed, and escapes are those of Python

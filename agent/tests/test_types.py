@@ -23,7 +23,7 @@ class Types(unittest.TestCase):
             self.skipTest(support.needs("mypy"))
         words = [python, "-m", "mypy", "--strict", "--python-version", "3.11", "--cache-dir", "/dev/null"]
         # apart, since two scripts are called `run`
-        for files in (["agent", "farm"], glob.glob("printed/*.py", root_dir=support.TOP), ["refused-memory/run.py"], [".ci/dearest"], [".ci/paths"]):
+        for files in (["agent", "farm"], glob.glob("printed/*.py", root_dir=support.TOP), ["refused-memory/run.py"], [".ci/dearest"]):
             done = subprocess.run([*words, *files], cwd=support.TOP, capture_output=True, text=True)
             self.assertEqual(done.returncode, 0, done.stdout + done.stderr)
 
