@@ -2,8 +2,8 @@
 ghost use Rattle.std.specs.Prelude.{◌≢◌};
 ghost use Rattle.processcommands.specs.declared.statuses.TheConstants.{DONE};
 
+use super::command_words::{Process, process_of};
 use super::statuses::{DONE, FAULT, MEMORY, REFUSED, print, print_usage};
-use super::words::{Process, process_of};
 use processes::{Cause, ProcessFault, run_coordinator, run_node};
 use std::alloc::Global;
 use std::fs::File;

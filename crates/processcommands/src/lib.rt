@@ -2,12 +2,12 @@
 #![tactic(auto)]
 
 mod calls;
+mod command_words;
 mod statuses;
-mod words;
 
 pub use calls::{carry_out, run};
+pub use command_words::{Process, coordinator_command, disagreement, named, node_command, with};
 pub use processes::{CoordinatorPlace, NodePlace};
 pub use statuses::{
     DONE, FAULT, MEMORY, REFUSED, USAGE, print, print_no_words, print_usage, program_words,
 };
-pub use words::{Process, coordinator_command, disagreement, named, node_command, with};
