@@ -1,7 +1,7 @@
 #!/usr/bin/env python3
-"""Refuses each allocation in turn that farmctl asks for, and looks at what the program answers.
+"""Refuses each allocation in turn that farmctl or farmd asks for, and looks at what the program answers.
 
-usage: refused-memory/run.py, at the top of the repository, once crates/farmctl/out/farmctl is built
+usage: refused-memory/run.py, at the top of the repository, once crates/farmctl/out/farmctl and crates/farmd/out/farmd are built
 
 Each command runs once with all memory, has to end with the status that its row names, and then runs once for each of its
 allocations, with that one refused. Such a run has to end as the undisturbed one does, or with status 3 and the line `out of memory`;
@@ -19,10 +19,11 @@ import sys
 import tempfile
 from typing import NamedTuple
 
-PROGRAM = os.path.abspath("crates/farmctl/out/farmctl")
+# Where the calls have their folders.
+PLACE = os.path.abspath("crates/farmctl/out")
 # The worked schedules stand in this table, a line each, with `; ` for a line's end.
 WORKED = "printed/worked.cases"
-# Each command on files of `examples`, and the status of its undisturbed run.
+# Each command on files of `examples`, and the status of its undisturbed run. It is one of farmctl, unless it names farmd.
 ROWS = [
     ("replay locked.schedule", 0),
     ("replay parked.schedule", 0),
@@ -44,6 +45,8 @@ ROWS = [
     ("run --nodes 1 --record kept df-cache-modes.llb", 0),
     ("run --nodes 2 df-cache-modes.llb df-cache-modes.llb", 0),
     ("run --nodes 1 --strict failing.llb put-remove.llb", 1),
+    ("farmd node --node 3 --nodes 2 --store nowhere --key key", 2),
+    ("farmd coordinator --record nowhere --key nothing", 4),
 ]
 # How many runs of a row may end as NoThread. That allocation has another number where a thread that runs already allocates too.
 NO_THREAD = 16
@@ -59,11 +62,11 @@ class Said(NamedTuple):
 
 
 def answer(words: list[str], environment: dict[str, str]) -> Said:
-    """Runs the program in a folder of its own."""
-    with tempfile.TemporaryDirectory(dir=os.path.dirname(PROGRAM)) as room:
+    """Calls a program in a folder of its own."""
+    with tempfile.TemporaryDirectory(dir=PLACE) as room:
         try:
             ran = subprocess.run(
-                [PROGRAM, *words], env=environment, cwd=room, stdin=subprocess.DEVNULL, capture_output=True, timeout=60
+                words, env=environment, cwd=room, stdin=subprocess.DEVNULL, capture_output=True, timeout=60
             )
         except subprocess.TimeoutExpired:
             return Said("without an end", [], b"", {})
@@ -79,7 +82,7 @@ def read(path: str) -> bytes:
 
 def allocations(words: list[str], preload: dict[str, str]) -> tuple[Said, int]:
     """Returns what the undisturbed run answers, and how many allocations it asks for."""
-    with tempfile.NamedTemporaryFile(dir=os.path.dirname(PROGRAM)) as count:
+    with tempfile.NamedTemporaryFile(dir=PLACE) as count:
         count.write(bytes(8))
         count.flush()
         whole = answer(words, {**preload, "COUNT": count.name})
@@ -96,14 +99,16 @@ def end_of(said: Said, whole: Said, words: list[str]) -> str:
     is_clean = not printed and (not files or is_kept)
     if is_clean and (status, told) == (3, b"out of memory\n"):
         return "refused"
-    if is_clean and (words[0], status, told) == ("run", 4, b"fault NoThread\n"):
+    if is_clean and (words[1], status, told) == ("run", 4, b"fault NoThread\n"):
         return "no thread"
     return "otherwise"
 
 
 def is_sound(row: str, status: int, preload: dict[str, str], folder: str = "examples") -> bool:
     """Prints what came of a row on files of a folder, and returns whether nothing else did than may."""
-    words = [os.path.abspath(f"{folder}/{word}") if "." in word else word for word in row.split()]
+    name, *words = row.split() if row.startswith("farmd ") else ["farmctl", *row.split()]
+    words = [os.path.abspath(f"{folder}/{word}") if "." in word else word for word in words]
+    words.insert(0, os.path.abspath(f"crates/{name}/out/{name}"))
     whole, count = allocations(words, preload)
     ends, wrong = collections.Counter[str](), list[str]()
     with concurrent.futures.ThreadPoolExecutor(os.cpu_count()) as pool:
@@ -139,7 +144,7 @@ def worked(folder: str) -> list[tuple[str, int]]:
 
 
 def main() -> int:
-    with tempfile.TemporaryDirectory(dir=os.path.dirname(PROGRAM)) as room:
+    with tempfile.TemporaryDirectory(dir=PLACE) as room:
         library = f"{room}/refuse.so"
         compiler = os.environ.get("CC") or "cc"
         subprocess.run([compiler, "-O2", "-shared", "-fPIC", "-o", library, "refused-memory/refuse.c", "-ldl"], check=True)
