@@ -17,7 +17,7 @@ import time
 from typing import Any, Callable, Iterator, Sequence
 
 from agent import client
-from agent.faults import FAULT, LOST, MISSING, USAGE, FarmFault, UsageFault, sentence, tell
+from agent.faults import FAULT, LOST, MISSING, USAGE, FarmFault, UsageFault, sentence, show, tell
 from agent.words import version_of, want_of
 
 LOG_MOST = 8 << 20  # bytes of the log of farms that commands start: a longer one is put aside, in place of the one before it
@@ -324,21 +324,21 @@ def _ago(at: float | None) -> str:
 def do_status(args: argparse.Namespace) -> int:
     told = ask_coordinator(args, {"do": "status", "last": LAST if args.json else 0})
     if args.json:
-        print(json.dumps(told, indent=2))
+        show(json.dumps(told, indent=2))
         return 0
     for lease in told["leases"]:
         slots = ", ".join(lease["slots"])
         what = f"has {slots} open" if lease["kind"] == "tenure" else f"has {slots}" if slots else "runs a command without folders of its own"
-        print(f"node {lease['node']} {what} {_ago(lease['since'])}, ticket {lease['ticket']}")
+        show(f"node {lease['node']} {what} {_ago(lease['since'])}, ticket {lease['ticket']}")
     for waiting in told["waiting"]:
         left = ", and nobody there wants it any more" if waiting["left"] else ""
-        print(f"node {waiting['node']} waits for {', '.join(waiting['folders'])}{left}")
+        show(f"node {waiting['node']} waits for {', '.join(waiting['folders'])}{left}")
     for folder in told["folders"]:
-        print(f"{folder['slot']} is at version {folder['version']}")
+        show(f"{folder['slot']} is at version {folder['version']}")
     for node in told["gone"]:
-        print(f"node {node} was retired")
+        show(f"node {node} was retired")
     if not told["leases"] and not told["waiting"]:
-        print("nobody has or wants a folder")
+        show("nobody has or wants a folder")
     return 0
 
 
@@ -358,7 +358,7 @@ def do_log(args: argparse.Namespace) -> int:
     told = ask_coordinator(args, {"do": "log", "folder": args.folder})
     for slot, versions in told.items():
         for version in versions:
-            print(f"{slot} version {version['version']} ticket {version['ticket']} {version['digest']}")
+            show(f"{slot} version {version['version']} ticket {version['ticket']} {version['digest']}")
     if not told:
         raise FarmFault(f"{args.folder} has no version")
     return 0
@@ -423,12 +423,12 @@ def do_gc(args: argparse.Namespace) -> int:
     store = serving.store_of(serving.Wanted(args.home, True, [], 1, kept["broker"], kept["contents"]), Hints(f"{args.home}/key"))
     if is_coordinators and isinstance(store, RedisStore):
         indexes, chunks = store.forget(needed, grace())
-        print(f"Redis forgot {indexes} indexes and {chunks} chunks")
+        show(f"Redis forgot {indexes} indexes and {chunks} chunks")
     folder = store.folder if isinstance(store, RedisStore) else store
     assert isinstance(folder, FolderStore)
     is_ours = is_coordinators or not kept["contents"]  # a folder that all see is the coordinator's business
     indexes, chunks = folder.forget(needed, grace()) if is_ours else (0, 0)
-    print(f"forgot {contents} contents of nodes, {indexes} indexes and {chunks} chunks")
+    show(f"forgot {contents} contents of nodes, {indexes} indexes and {chunks} chunks")
     return 0
 
 

@@ -38,6 +38,12 @@ def named(path: str) -> Iterator[None]:
         raise
 
 
+def show(text: str, at_once: bool = False) -> None:
+    """Says something on the standard output."""
+    with named("the standard output"):
+        print(text, flush=at_once)
+
+
 class UsageFault(FarmFault):
     """What was asked makes no sense."""
 

@@ -16,7 +16,7 @@ from typing import Any
 from agent.builds import Build, Builds, BuildAsked
 from agent.coordinator import SILENT_LEAST, CoordinatorAgent
 from agent.executions import open_many
-from agent.faults import LOST, FarmFault, UsageFault, tell
+from agent.faults import LOST, FarmFault, UsageFault, show, tell
 from agent.hints import Hints, make_key
 from agent.lines import line_of
 from agent.node import NodeAgent, Setup
@@ -177,19 +177,33 @@ def _serve(served: Served, name: str, handler: Handler) -> None:
 
 
 def serve(wanted: Wanted) -> int:
-    """Serves until it is told to end, or nobody uses it any more."""
+    """Serves, and ends well whatever ends it."""
     over = threading.Event()
     open_many()
     served = begin(wanted)  # until it stands a signal ends this process at once
     for number in (signal.SIGINT, signal.SIGTERM, signal.SIGHUP):
         if signal.getsignal(number) != signal.SIG_IGN:  # whoever started it keeps it off, as nohup does
             signal.signal(number, lambda *_: over.set())
-    with open(f"{wanted.home}/pid", "w") as file:
-        file.write(f"{os.getpid()}\n")
     mark = f"{wanted.home}/served"
-    if not wanted.while_used:
-        open(mark, "w").close()  # it stands until a farm that people started has ended well: till then no command starts another in its place
-    print("up", flush=True)
+    try:
+        with open(f"{wanted.home}/pid", "w") as file:
+            file.write(f"{os.getpid()}\n")
+        if not wanted.while_used:
+            open(mark, "w").close()  # it stands until a farm that people started has ended well: till then no command starts another in its place
+        show("up", at_once=True)
+        _stand(served, over)
+    finally:
+        served.stop()
+        if not wanted.while_used:
+            with contextlib.suppress(FileNotFoundError):
+                os.unlink(mark)
+        _forget_pid(f"{wanted.home}/pid")
+    return 0
+
+
+def _stand(served: Served, over: threading.Event) -> None:
+    """Waits until it is told to end, or nobody uses it any more."""
+    wanted = served.wanted
     while not over.wait(0.5):
         if wanted.while_used and not served.is_busy() and time.monotonic() - max(service.used for service in served.services) > IDLE:
             for service in served.services:
@@ -198,12 +212,6 @@ def serve(wanted: Wanted) -> int:
             while served.is_busy() and not over.wait(0.2):
                 pass
             break
-    served.stop()
-    if not wanted.while_used:
-        with contextlib.suppress(FileNotFoundError):
-            os.unlink(mark)
-    _forget_pid(f"{wanted.home}/pid")
-    return 0
 
 
 def _forget_pid(path: str) -> None:

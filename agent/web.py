@@ -18,7 +18,7 @@ import sys
 import threading
 from typing import Any, Callable
 
-from agent.faults import FarmFault
+from agent.faults import FarmFault, show
 
 PAGE = os.path.join(os.path.dirname(os.path.abspath(__file__)), "page.html")
 
@@ -115,7 +115,7 @@ def serve(address: str, port: int, read: Callable[[], Any]) -> int:
     for number in (signal.SIGINT, signal.SIGTERM, signal.SIGHUP):
         if signal.getsignal(number) != signal.SIG_IGN:  # whoever started it keeps it off, as nohup does
             signal.signal(number, lambda *_: threading.Thread(target=server.shutdown).start())
-    print(f"http://{server.server_name}:{server.server_port}/", flush=True)
+    show(f"http://{server.server_name}:{server.server_port}/", at_once=True)
     server.serve_forever()
     server.server_close()
     return 0

@@ -500,6 +500,16 @@ class Streams(support.FarmTest):
             full = self.shell('exec "$@" >/dev/full', verb)
             self.assertEqual((full.returncode, full.stderr), (70, "farm: the standard output: No space left on device\n"))
 
+    def test_unheard(self) -> None:
+        """A farm that can't say that it is up ends well. More than a pipe holds is told to nobody in the same words as less."""
+        full = self.shell('exec "$@" >/dev/full', "up", "--nodes", "1")
+        self.assertEqual((full.returncode, full.stderr), (70, "farm: the standard output: No space left on device\n"))
+        left = [name for name in os.listdir(self.home) if name.endswith(".sock") or name in ("pid", "served")]
+        self.assertEqual(left, [])
+        self.farm("run", *(word for number in range(16) for word in ("--folder", f"locked:{number}{'x' * 4096}=w{number}")), "--", "true")
+        gone = self.shell('{ "$@"; echo $? >&2; } | true', "status", "--json")
+        self.assertEqual(gone.stderr, "farm: the standard output: Broken pipe\n70\n")
+
     def test_gone(self) -> None:
         self.start("2>/dev/full >/dev/null")
         self.write("w/mine", "")
