@@ -41,6 +41,7 @@ class Trash:
         def sweep() -> None:
             for path in paths:
                 try:
+                    trees.open_up(path)
                     shutil.rmtree(path, ignore_errors=True)
                 except RecursionError:  # folders within folders
                     subprocess.run(["rm", "-rf", path], stdin=subprocess.DEVNULL, stderr=subprocess.DEVNULL)
@@ -56,7 +57,8 @@ class Trash:
         room = tempfile.mkdtemp(dir=self.home)
         try:
             os.rename(path, f"{room}/old")
-        except OSError:  # of another file system, or a mount
+        except OSError:  # of another file system, a mount, or a folder that nobody may write
+            trees.open_up(path)
             for name in os.listdir(path):
                 trees.remove(f"{path}/{name}")
         self._sweep(room)

@@ -161,10 +161,23 @@ def is_folder(path: str) -> bool:
     return os.path.isdir(path) and not os.path.islink(path)
 
 
+def open_up(path: str) -> None:
+    """Lets the owner of a folder remove what it holds: one that nobody may write, as Go makes them, stops all but root."""
+    if os.geteuid() == 0:
+        return
+    with contextlib.suppress(OSError, RecursionError):
+        os.chmod(path, 0o700)
+        for folder, folders, _ in os.walk(path):
+            for name in folders:
+                if not os.path.islink(f"{folder}/{name}"):
+                    os.chmod(f"{folder}/{name}", 0o700)
+
+
 def remove(path: str) -> None:
     """Removes a folder with all that it holds."""
     if not is_folder(path):
         if os.path.lexists(path):
             os.unlink(path)
         return
+    open_up(path)
     shutil.rmtree(path)

@@ -1,6 +1,7 @@
 """Folders as contents, and back; what a store forgets."""
 from __future__ import annotations
 
+import contextlib
 import errno
 import json
 import mmap
@@ -496,6 +497,29 @@ class Paths(support.RoomTest):
         with mock.patch("os.fdopen", lambda handle, how: open("/dev/full", how)), self.assertRaisesRegex(OSError, f"No space.*{self.room}/f"):
             put_file(self.path("f"), b"x")
         self.assertEqual(os.listdir(self.room), [])
+
+    @unittest.skipUnless(support.is_root, "only root can become another user")
+    def test_nobody_may_write(self) -> None:
+        """What its owner may not write is removed all the same where the agent is its owner and not root."""
+        os.chmod(self.room, 0o777)
+        child = os.fork()
+        if child == 0:
+            try:
+                os.setresuid(65534, 65534, 65534)
+                places, path = Places(self.path("home")), self.path("w")
+                for top in (0o555, 0o755):  # the first one can't be moved away
+                    places.clear(path)
+                    self.write("w/a/b/f", "x")
+                    os.symlink("/", self.path("w/link"))
+                    for folder, mode in (("w/a/b", 0), ("w/a", 0o555), ("w", top)):
+                        os.chmod(self.path(folder), mode)
+                    places.clear(path)
+                    self.assertEqual(os.listdir(path), [])
+                support.until(lambda: not os.listdir(places.trash.home))
+                os._exit(0)
+            finally:
+                os._exit(1)
+        self.assertEqual(os.waitpid(child, 0)[1], 0)
 
     def test_made_anew(self) -> None:
         places = Places(self.path("home"))
