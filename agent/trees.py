@@ -25,6 +25,7 @@ WHOLE = "--exclude-nodump=no"  # else it leaves out the files that have the attr
 # It also leaves out what a file of this name lists, and no option changes that: in an index each such file has a `%` more.
 EXCLUDE = ".caexclude"
 LONGEST = 237  # bytes of the name of what is no folder: it is made under a name that is longer
+DEEPEST = 63  # names from a folder down to what it holds: casync goes no deeper
 
 
 class NotMade(FarmFault):
@@ -72,11 +73,16 @@ def _show_excludes(path: str) -> None:
 
 
 def _check(path: str) -> None:
-    """Refuses what casync would keep and not bring back."""
+    """Refuses what casync would keep and not bring back, or would refuse without its name."""
+    deepest = path.count("/") + DEEPEST
     for folder, folders, files in os.walk(path):
+        if folder.count("/") == deepest and (folders or files):
+            raise FarmFault(f"{path} can't be kept: it goes more than {DEEPEST} names deep")
         for name in ("", *folders, *files):
             whole = f"{folder}/{name}"
             here = os.lstat(whole)
+            if stat.S_IFMT(here.st_mode) in (stat.S_IFREG, stat.S_IFDIR) and not os.access(whole, os.R_OK):
+                raise FarmFault(f"{whole} can't be kept: the agent may not read it")
             if here.st_mtime_ns < 0:
                 raise FarmFault(f"{whole} can't be kept: its time is before 1970")
             if len(os.fsencode(name)) > LONGEST and not stat.S_ISDIR(here.st_mode):
@@ -104,11 +110,8 @@ def make(store: Store, path: str, beside: str | None = None, check: Callable[[],
     """The index of a folder, whose chunks are in the store's folder then. Hold `store.making` from before it until the index is
     published. What isn't kept lies in the folder `beside`, else where the system has such files. Where `check` finds that nobody waits for
     it any more it ends."""
-    try:
-        _check(path)
-        hidden = _hide_excludes(path)
-    except RecursionError:
-        raise FarmFault(f"{path} has too many folders within folders") from None
+    _check(path)
+    hidden = _hide_excludes(path)
     try:
         index = _make(store, path, beside, check)
         return _make(store, path, beside, check) if _drop_hollow(store, index) else index

@@ -154,10 +154,17 @@ class Trees(support.RoomTest):
         self.assertIsNone(self.store.index("../key"))
 
     def test_deep(self) -> None:
-        """More folders within folders than can be walked."""
-        self.write("tree/f", "x")
+        """More folders within folders than are kept, and than can be walked."""
+        self.write(f"tree/{'d/' * 62}f", "x")
+        index, _ = support.kept(self.store, self.path("tree"))
+        trees.extract(self.store, index, self.path("out"))
+        self.assertEqual(told(self.path("out")), told(self.path("tree")))
+        for name in ("b/c", "b/f"):
+            self.write(f"tree/{'d/' * 62}{name}", "x")
+            with self.assertRaisesRegex(FarmFault, "more than 63 names deep"):
+                support.kept(self.store, self.path("tree"))
         subprocess.run([sys.executable, "-c", "import os\nfor i in range(1200): os.mkdir('a'); os.chdir('a')"], cwd=self.path("tree"), check=True)
-        with self.assertRaisesRegex(FarmFault, "too many folders within folders"):
+        with self.assertRaisesRegex(FarmFault, "more than 63 names deep"):
             support.kept(self.store, self.path("tree"))
         self.assertIsNone(signature(self.path("tree")))
         Trash(self.path("home")).take(self.path("tree"))
@@ -500,7 +507,7 @@ class Paths(support.RoomTest):
 
     @unittest.skipUnless(support.is_root, "only root can become another user")
     def test_nobody_may_write(self) -> None:
-        """What its owner may not write is removed all the same where the agent is its owner and not root."""
+        """What its owner may not write is removed all the same where the agent is its owner and not root. What it may not read is named."""
         os.chmod(self.room, 0o777)
         child = os.fork()
         if child == 0:
@@ -516,6 +523,9 @@ class Paths(support.RoomTest):
                     places.clear(path)
                     self.assertEqual(os.listdir(path), [])
                 support.until(lambda: not os.listdir(places.trash.home))
+                os.chmod(self.write("w/a/secret", "x"), 0)
+                with self.assertRaisesRegex(FarmFault, "w/a/secret can't be kept: the agent may not read it"):
+                    places.keep(FolderStore(self.path("store")), path)
                 os._exit(0)
             finally:
                 os._exit(1)
