@@ -89,6 +89,8 @@ def check(wanted: Wanted) -> None:
         raise UsageFault(f"a node that is well may be silent for some seconds: --lease-timeout is at least {SILENT_LEAST:g}")
     if not wanted.broker and os.path.exists(mark):
         raise UsageFault(f"{home} is of a farm over a broker. If that farm is gone, remove {mark}")
+    if wanted.broker and wanted.coordinator and os.path.exists(mark) and not os.path.exists(f"{home}/record"):
+        raise UsageFault(f"{home} is of a farm whose coordinator has another home, or lost its record: a second one would give its tickets again")
     if wanted.broker and not os.path.exists(f"{home}/key") and not wanted.coordinator:
         raise UsageFault(f"{home}/key is missing: copy it from the coordinator's machine, by a way that nobody else can read")
 
