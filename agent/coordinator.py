@@ -25,6 +25,11 @@ AT_ONCE = 64  # lines that are carried together
 SINCE_MOST = 65_536  # leases whose beginning is known
 LOOK_EVERY = 5.0  # seconds, of a node: from one look whether the leases of its commands live to the next
 SILENT_LEAST = 3 * HEARTBEAT  # seconds: a shorter silence says nothing
+REFUSALS = {  # what people are told beside the name of one
+    "NotLive": "no live lease has this ticket, and farm status shows those that live",
+    "Tenure": "a SHARED folder is open under this ticket until those who use it end",
+    "SlotLeased": "wait until its lease ends, or withdraw that",
+}
 
 
 class CoordinatorAgent:
@@ -257,7 +262,8 @@ class CoordinatorAgent:
         """An operator's call. What came of it; a refusal is a fault."""
         answer = self.call(line_of(*words))
         if answer.is_refused:
-            raise FarmFault(f"{' '.join(words)}: {answer.note}")
+            why = REFUSALS.get(answer.note.removeprefix("refused "))
+            raise FarmFault(f"{' '.join(words)}: {answer.note}{f': {why}' if why else ''}")
         return answer.note
 
     def retire(self, node: int, is_gone: bool) -> str:

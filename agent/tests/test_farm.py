@@ -314,6 +314,7 @@ class Nodes(support.FarmTest):
             self.assertIn("every node that runs in", self.farm("run", "--", "true", status=70).stderr)
 
     def withdrawn(self) -> None:
+        self.assertIn("withdraw 999: refused NotLive: no live lease has this ticket", self.asked("withdraw", "999", status=70))
         rows: list[tuple[list[str], int]] = [([], 0), (["--must-commit"], 75)]
         for words, status in rows:
             held = self.run_on(1, "touch in; until [ -e go ]; do sleep 0.05; done; echo late >> w1/f", *words)
@@ -474,6 +475,8 @@ class Apart(support.FarmTest):
         self.ups[1].wait()
         self.assertIn("of a farm over a broker", self.run_on(1, "true", 70))
         self.assertIn("of a farm over a broker", self.asked("up", "--home", self.path("n1"), status=64))
+        self.assertIn("has another home", self.asked("coordinator", "--home", self.path("n1"), "--broker", url, status=64))
+        self.assertFalse(os.path.exists(self.path("n1/record")))
 
 
 @unittest.skipUnless(support.has("casync"), support.needs("casync"))
