@@ -239,8 +239,13 @@ class Places:
         if index and self._standing(path) == digest:
             return
         self.clear(path)
-        with self.rooms.room() as room:
-            trees.extract(store, index, path, self.locks.get(path, ()), check, room)
+        try:
+            with self.rooms.room() as room:
+                trees.extract(store, index, path, self.locks.get(path, ()), check, room)
+        except BaseException:
+            with contextlib.suppress(FarmFault, OSError):
+                self.clear(path)  # half a folder is of no use, and may take the room that was missing
+            raise
         self._note(path, digest, signature(path) if index else None)
 
     def left(self, path: str) -> None:

@@ -39,7 +39,7 @@ def _casync(*words: str, keeps: Sequence[int] = (), check: Callable[[], None] = 
     done = whole(process, check)
     if done.returncode:
         kind = NotMade if words[0] == "extract" else FarmFault
-        raise kind(f"casync {words[0]}: {why(done)}")
+        raise kind(f"casync {words[0]} {words[-1]}: {why(done)}")
 
 
 def _excludes(path: str) -> Iterator[tuple[str, list[str]]]:

@@ -63,7 +63,7 @@ class Builds(support.FarmTest):
         self.tags()
         self.write("full", "")
         unkept = self.farm("build", "--build-arg", "WHO=five", "-t", "app", "context", status=70).stderr
-        self.assertRegex(unkept, "farm: image sha256:[0-9a-f]{64} is built, and isn't tagged\nfarm: casync make: it ended with status 9\n")
+        self.assertRegex(unkept, "farm: image sha256:[0-9a-f]{64} is built, and isn't tagged\nfarm: casync make /[^ ]+: it ended with status 9\n")
 
     def tags(self) -> None:
         """buildah takes the names that are taken here, and no other ones."""

@@ -117,7 +117,7 @@ class Trees(support.RoomTest):
         self.write("bin/casync", "#!/bin/sh\nkill -9 $$\n")
         os.chmod(self.path("bin/casync"), 0o755)
         with mock.patch.dict("os.environ", {"PATH": f"{self.path('bin')}:{os.environ['PATH']}"}):
-            with self.assertRaisesRegex(FarmFault, r"\Acasync make: it ended with status -9\Z"):
+            with self.assertRaisesRegex(FarmFault, r"\Acasync make /[^ ]+: it ended with status -9\Z"):
                 support.kept(self.store, self.tree())
 
     def test_in_the_way(self) -> None:
@@ -495,6 +495,21 @@ class Paths(support.RoomTest):
             shutil.rmtree(path)
             places.fill(store, index, path)
         self.assertEqual(self.read("w/f"), "x")
+
+    @unittest.skipUnless(support.has("casync"), support.needs("casync"))
+    @unittest.skipUnless(support.is_root, "only root can mount")
+    def test_half(self) -> None:
+        """Of a folder for which there isn't room nothing stays, and its path is told."""
+        store, places, path = FolderStore(self.path("store")), Places(self.path("home")), self.path("small/w")
+        self.write("big/f", "".join(map(str, range(300_000))))
+        index, _ = support.kept(store, self.path("big"))
+        os.mkdir(self.path("small"))
+        if subprocess.run(["mount", "-t", "tmpfs", "-o", "size=1m", "tmpfs", self.path("small")], capture_output=True).returncode:
+            self.skipTest("nothing can be mounted here")
+        self.addCleanup(subprocess.run, ["umount", self.path("small")], check=True)
+        with self.assertRaisesRegex(FarmFault, f"casync extract {path}: .*No space left"):
+            places.fill(store, index, path)
+        self.assertEqual(os.listdir(path), [])
 
     @unittest.skipUnless(os.path.exists("/dev/full"), "there is no /dev/full")
     def test_full(self) -> None:
