@@ -229,6 +229,7 @@ def start_for(home: str, node: int | None) -> None:
         raise FarmFault(f"no node runs in {home}, which is of a farm over a broker: farm node N --broker redis://.. runs one")
     if os.path.exists(f"{home}/served"):
         raise FarmFault(f"the farm of {home} was killed: farm up starts it again, or remove {home}/served")
+    client.check_home(home)
     os.makedirs(home, mode=0o700, exist_ok=True)
     with open(f"{home}/starting", "w") as lock:
         fcntl.flock(lock, fcntl.LOCK_EX)

@@ -11,7 +11,7 @@ import socket
 from types import FrameType
 from typing import Any
 
-from agent.faults import LOST, FarmFault, tell
+from agent.faults import LOST, FarmFault, UsageFault, tell
 from agent.launch import PASSED
 
 
@@ -79,6 +79,12 @@ def _take(asked: Asked, told: dict[str, Any], shows: bool) -> bool:
         if shows:
             tell(told["say"])
     return False
+
+
+def check_home(home: str) -> None:
+    """Refuses a home whose sockets, or whose files for a filter, can't be named."""
+    if len(os.fsencode(home)) > 80 or any(c.isspace() or c == "=" or "\ud800" <= c <= "\udfff" for c in home):
+        raise UsageFault(f"{home!r} is too long for a socket's path, or has a space, = or what isn't UTF-8 in it: name another --home")
 
 
 def is_there(path: str) -> bool:

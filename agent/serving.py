@@ -14,6 +14,7 @@ from dataclasses import dataclass, field
 from typing import Any
 
 from agent.builds import Build, Builds, BuildAsked
+from agent.client import check_home
 from agent.coordinator import SILENT_LEAST, CoordinatorAgent
 from agent.executions import open_many
 from agent.faults import LOST, FarmFault, UsageFault, show, tell
@@ -83,8 +84,7 @@ def store_of(wanted: Wanted, hints: Hints) -> Store:
 def check(wanted: Wanted) -> None:
     """Refuses what can't be served, before anything of it is made."""
     home, mark = wanted.home, f"{wanted.home}/joined"
-    if len(os.fsencode(home)) > 80 or any(c.isspace() or c == "=" or "\ud800" <= c <= "\udfff" for c in home):
-        raise UsageFault(f"{home!r} is too long for a socket's path, or has a space, = or what isn't UTF-8 in it: name another --home")
+    check_home(home)
     if wanted.lease_timeout is not None and wanted.lease_timeout < SILENT_LEAST:
         raise UsageFault(f"a node that is well may be silent for some seconds: --lease-timeout is at least {SILENT_LEAST:g}")
     if not wanted.broker and os.path.exists(mark):

@@ -174,6 +174,7 @@ class Alone(support.FarmTest):
             heard = self.asked(*words, status=status)
             self.assertIn(said, heard)
             self.assertNotIn("'se", heard)  # of a password
+        self.assertFalse(os.path.exists(self.path("my home")))
         gone = 'mkdir gone && cd gone && rmdir ../gone && exec "$@"'
         for call in (["run", "--", "true"], ["build", self.room]):
             done = subprocess.run(["sh", "-c", gone, "sh", *FARM, *call], cwd=self.room, env=self.env, capture_output=True, text=True)
