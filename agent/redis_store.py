@@ -154,7 +154,10 @@ class RedisStore:
             for digest in needed | (set(digests) - gone):
                 index = self.index(digest)
                 if index is None:
-                    raise FarmFault(f"the content {digest} isn't readable, so no chunk of Redis is forgotten ({len(gone)} indexes were)")
+                    raise FarmFault(
+                        f"the content {digest} isn't readable, so no chunk of Redis is forgotten ({len(gone)} indexes were): run a command on "
+                        "the folder of which farm log shows it, or prune that"
+                    )
                 used.update(chunk_names(index))
             unused = [name for name in self._kept("chunk") if name not in used]
             return len(gone), len(self._forget("chunk", unused, grace))

@@ -156,7 +156,7 @@ class Redis:
             replies = link.calls(commands)
         except (OSError, ValueError, RedisFault) as why:
             self._drop(link)
-            raise RedisAway(str(why) or type(why).__name__) from None
+            raise RedisAway(getattr(why, "strerror", None) or str(why) or type(why).__name__) from None
         except BaseException:
             self._drop(link)
             raise
