@@ -95,11 +95,18 @@ def check(wanted: Wanted) -> None:
         raise UsageFault(f"{home}/key is missing: copy it from the coordinator's machine, by a way that nobody else can read")
 
 
-def join(wanted: Wanted) -> None:
+def join(wanted: Wanted, hints: Hints) -> None:
     """Marks the home of a farm over a broker: a farm that serves it alone would have a coordinator of its own, and other versions."""
     if wanted.broker:
         with open(f"{wanted.home}/joined", "w") as file:
-            file.write(wanted.broker.rpartition("@")[2].removeprefix("redis://") + "\n")
+            file.write(wanted.broker.rpartition("@")[2].removeprefix("redis://") + f"\n{hints.name()}\n")
+
+
+def check_joined(home: str, hints: Hints) -> None:
+    """Refuses a home that served a farm of another key."""
+    with contextlib.suppress(FileNotFoundError), open(f"{home}/joined") as file:
+        if file.read().splitlines()[1:] not in ([], [hints.name()]):
+            raise UsageFault(f"{home} served another farm, whose key was another one than {home}/key: name another --home")
 
 
 def check_contents(folder: str, hints: Hints) -> None:
@@ -121,6 +128,7 @@ def setup_of(wanted: Wanted) -> Setup:
     os.makedirs(wanted.home, mode=0o700, exist_ok=True)
     key = make_key(f"{wanted.home}/key")
     hints = Hints(key)
+    check_joined(wanted.home, hints)
     if wanted.contents:
         check_contents(wanted.contents, hints)
     transport: Transport = LocalTransport()
@@ -147,7 +155,7 @@ def begin(wanted: Wanted) -> Served:
             _begin_coordinator(served, setup)
         for number in wanted.nodes:
             _begin_node(served, setup, number)
-        join(wanted)
+        join(wanted, Hints(setup.key))
     except BaseException:
         served.stop()
         raise

@@ -478,6 +478,8 @@ class Apart(support.FarmTest):
         self.assertIn("of a farm over a broker", self.asked("up", "--home", self.path("n1"), status=64))
         self.assertIn("has another home", self.asked("coordinator", "--home", self.path("n1"), "--broker", url, status=64))
         self.assertFalse(os.path.exists(self.path("n1/record")))
+        self.write("n1/key", "another farm's key, of more than 32 bytes\n")
+        self.assertIn("served another farm", self.asked("node", "1", "--home", self.path("n1"), "--broker", url, status=64))
 
 
 @unittest.skipUnless(support.has("casync"), support.needs("casync"))
