@@ -506,7 +506,7 @@ class Paths(support.RoomTest):
         os.mkdir(self.path("small"))
         if subprocess.run(["mount", "-t", "tmpfs", "-o", "size=1m", "tmpfs", self.path("small")], capture_output=True).returncode:
             self.skipTest("nothing can be mounted here")
-        self.addCleanup(subprocess.run, ["umount", self.path("small")], check=True)
+        self.addCleanup(lambda: subprocess.run(["umount", self.path("small")], check=True))
         with self.assertRaisesRegex(FarmFault, f"casync extract {path}: .*No space left"):
             places.fill(store, index, path)
         self.assertEqual(os.listdir(path), [])
