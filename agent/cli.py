@@ -272,6 +272,15 @@ def own_folder() -> str:
         raise FarmFault("the folder that this was called in is there no more") from None
 
 
+def own_environment() -> dict[str, str]:
+    """What this was called with: where that has no locale of its own Python sets LC_CTYPE."""
+    front = b"LC_CTYPE="
+    with open("/proc/self/environ", "rb") as file:
+        given = [word.removeprefix(front) for word in file.read().split(b"\0") if word.startswith(front)]
+    others = {key: value for key, value in os.environ.items() if key != "LC_CTYPE"}
+    return others | {"LC_CTYPE": os.fsdecode(value) for value in given}
+
+
 def own_umask() -> int:
     os.umask(mask := os.umask(0o077))
     return mask
@@ -284,7 +293,7 @@ def do_run(args: argparse.Namespace) -> int:
     for word in args.folder:
         want_of(word)  # wrong words are told before a farm is started
     return ask_node(args.home, args.node, {
-        "do": "run", "folders": args.folder, "command": command, "cwd": own_folder(), "env": dict(os.environ),
+        "do": "run", "folders": args.folder, "command": command, "cwd": own_folder(), "env": own_environment(),
         "wait": args.wait, "must_commit": args.must_commit, "on_lost": args.on_lost, "umask": own_umask(),
     })
 

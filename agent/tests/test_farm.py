@@ -237,6 +237,14 @@ class Alone(support.FarmTest):
         self.assertTrue(support.is_over(int(self.read("pid"))))
         self.assertFalse(os.path.exists(self.path("got")))
 
+    def test_environment(self) -> None:
+        """A command has its caller's environment, and no locale that its caller hasn't."""
+        env = {key: self.env[key] for key in ("PATH", "FARM_HOME", "FARMCTL")}
+        rows: list[dict[str, str]] = [{}, {"LC_CTYPE": "POSIX"}, {"LANG": "C", "A": "x\ny=z"}]
+        for given in rows:
+            done = subprocess.run([*FARM, "run", "--", "env", "-0"], env=env | given, cwd=self.room, capture_output=True, text=True, timeout=support.PATIENCE)
+            self.assertEqual(sorted(done.stdout.split("\0")[:-1]), sorted(f"{key}={value}" for key, value in (env | given).items()))
+
     def test_program_from_here(self) -> None:
         """The farm's program may be named from the folder in which a command is called. What follows a command's name is its own."""
         os.symlink(self.env["FARMCTL"], self.path("program"))
