@@ -28,6 +28,8 @@ from agent.store import NEW, Store, put_file
 from agent.trees import is_folder
 from agent.words import short_name
 
+LONGEST = 4095  # bytes of a path
+
 
 class Trash:
     """Folders that are being removed, which can take long."""
@@ -314,6 +316,8 @@ def path_order(path: str) -> list[str]:
 def place_of(path: str, cwd: str) -> str:
     """The one name of a path."""
     whole = os.path.normpath(os.path.join(cwd, path))
+    if len(os.fsencode(whole)) > LONGEST:
+        raise UsageFault(f"{whole[:80]}.. is too long: a path has at most {LONGEST} bytes")
     if os.path.islink(whole):
         raise FarmFault(f"{whole} is a link: name the folder itself")
     return os.path.join(os.path.realpath(os.path.dirname(whole)), os.path.basename(whole))

@@ -600,6 +600,8 @@ class Paths(support.RoomTest):
         self.assertEqual(place_of("link/../link/x", self.room), f"{room}/real/x")
         with self.assertRaisesRegex(FarmFault, "is a link"):
             place_of("link", self.room)
+        with self.assertRaisesRegex(FarmFault, "/x/x/x.. is too long: a path has at most 4095 bytes"):
+            place_of("/x" * 39 + "/" + "x" * 4020, self.room)
         check_apart(["/a/b", "/a/bc", "/c"])
         for paths in (["/a", "/a/b"], ["/a", "/" + "a"]):
             with self.assertRaises(FarmFault):
