@@ -147,7 +147,7 @@ class Run:
             else:
                 self._fill(want, slots[want.folder], path)
         try:
-            status = self._command(grant.ticket, tenures, binds)
+            status = self._command(grant, tenures, binds)
         finally:
             for want in self.job.wants:
                 if not want.is_shared:
@@ -178,7 +178,7 @@ class Run:
 
         return self.agent.places.rooms.file(self.agent.places.keep(self.agent.store, self.paths[slot.folder], away, patience.check)[0])
 
-    def _command(self, ticket: int, tenures: dict[str, Tenure], binds: list[tuple[str, str, bool]]) -> int:
+    def _command(self, grant: Grant, tenures: dict[str, Tenure], binds: list[tuple[str, str, bool]]) -> int:
         agent, job = self.agent, self.job
         if not agent.executions.has_namespaces:
             self.caller.say("the kernel gives this agent no pid namespace: what leaves the command's session can outlive it")
@@ -192,16 +192,16 @@ class Run:
                 tenure.used = True
             execution = agent.executions.start(job.command, job.cwd, job.env, self.caller.streams, binds, job.umask)
         self.caller.signalled = execution.signal
-        agent.running.add(ticket)
+        agent.running.add(grant.ticket)
         try:
-            return self._watch(ticket, execution)
+            return self._watch(grant, execution)
         finally:
-            agent.running.discard(ticket)
+            agent.running.discard(grant.ticket)
             self.caller.signalled = None
             execution.end()
             agent.executions.over(execution)
 
-    def _watch(self, ticket: int, execution: Execution) -> int:
+    def _watch(self, grant: Grant, execution: Execution) -> int:
         """Waits for the command, and ends it where nobody waits for it, or its lease is lost and it is to stop then."""
         stopped: float | None = None
         told = False
@@ -213,9 +213,11 @@ class Run:
                 return status
             if self.caller.gone:
                 raise ClientGone("nobody waits for it any more")
-            if ticket in self.agent.ended and not told:
+            if grant.ticket in self.agent.ended and not told:
                 told = True
-                self.caller.say(f"the lease {ticket} has ended: what the command leaves won't count")
+                own = ", ".join(slot.name for slot in grant.slots if slot.writable)  # a SHARED folder's tenure has its own lease
+                uncounted = f": what the command leaves in {own} won't count" if own else ""
+                self.caller.say(f"the lease {grant.ticket} has ended{uncounted}")
                 if self.job.stops_when_lost:
                     execution.signal(signal.SIGTERM)
                     self.stopped, stopped = True, time.monotonic()
