@@ -9,11 +9,12 @@ ghost use Rattle.vertices.specs.Edges.{AreEdges, Numbers, GoesTo, targets};
 ghost use Rattle.vertices.specs.Numbered.{AreNumbers, GoBelow, HasTargets};
 ghost use Rattle.vertices.specs.Loading.{VertexCheck};
 
+use super::edge_list::EdgeList;
 use super::edges::edges_of;
 use super::refusal::LoadRefusal;
 use super::unresolved::Asked;
-use names::Items;
 use ordering::{Table, order_of};
+use smallvec::SmallVec;
 use std::alloc::{AllocError, Global};
 
 /// Checks a vertex, and gives its edges.
@@ -21,7 +22,7 @@ fn vertex_edges(
     alloc: Global,
     table: &Table,
     asked: &Asked,
-) -> Result<Vec<(usize, u64)>, LoadRefusal>
+) -> Result<SmallVec<(usize, u64), 1>, LoadRefusal>
     ensures check { (vertex : SpecVertex) (digests : List SpecDigest) (all : List SpecVertex) → Asks vertex asked.now
         → Numbers digests all table.now → Meets (VertexCheck digests vertex) result }
     ensures edges { (vertex : SpecVertex) (digests : List SpecDigest) (all : List SpecVertex) → Asks vertex asked.now
@@ -35,11 +36,7 @@ fn vertex_edges(
 }
 
 /// Checks each vertex, and gives their edges.
-fn edges_of_each(
-    alloc: Global,
-    table: &Table,
-    all: &[Asked],
-) -> Result<Vec<Items<(usize, u64)>>, LoadRefusal>
+fn edges_of_each(alloc: Global, table: &Table, all: &[Asked]) -> Result<Vec<EdgeList>, LoadRefusal>
     ensures check { (vertices : List SpecVertex) (digests : List SpecDigest) → AllZip Asks vertices all.now
         → Numbers digests vertices table.now → Meets (Each (VertexCheck digests) vertices) result }
     ensures edges { (vertices : List SpecVertex) (digests : List SpecDigest) → AllZip Asks vertices all.now
@@ -47,7 +44,7 @@ fn edges_of_each(
 {
     let mut edges = Vec::with_capacity(alloc, all.len())?;
     for asked in all {
-        edges.push(Items::new(vertex_edges(alloc, table, asked)?))?;
+        edges.push(EdgeList::new(vertex_edges(alloc, table, asked)?))?;
     }
     Ok(edges)
 }
@@ -57,7 +54,7 @@ pub(crate) fn all_edges(
     alloc: Global,
     table: Table,
     all: Vec<Asked>,
-) -> Result<Vec<Items<(usize, u64)>>, LoadRefusal>
+) -> Result<Vec<EdgeList>, LoadRefusal>
     ensures check { (vertices : List SpecVertex) (digests : List SpecDigest) → AllZip Asks vertices all.items
         → Numbers digests vertices table → Meets (Each (VertexCheck digests) vertices) result }
     ensures edges { (vertices : List SpecVertex) (digests : List SpecDigest) → AllZip Asks vertices all.items
@@ -74,7 +71,7 @@ fn targets_of(alloc: Global, edges: &[(usize, u64)]) -> Result<Vec<usize>, Alloc
 }
 
 /// The numbers that the edges of each vertex go to.
-fn all_targets(alloc: Global, edges: &[Items<(usize, u64)>]) -> Result<Vec<Vec<usize>>, AllocError>
+fn all_targets(alloc: Global, edges: &[EdgeList]) -> Result<Vec<Vec<usize>>, AllocError>
     ensures { IfOk result (λ rows. HasTargets edges.now rows.items) }
 {
     let mut rows = Vec::with_capacity(alloc, edges.len())?;
@@ -103,7 +100,7 @@ fn go_below(edges: &[(usize, u64)], number: usize) -> bool
 }
 
 /// Whether each edge goes to a lower number, as in a definition that has each step before those that take it.
-fn all_go_below(edges: &[Items<(usize, u64)>]) -> bool
+fn all_go_below(edges: &[EdgeList]) -> bool
     ensures { IsTrue result → GoBelow edges.now }
 {
     for (number, some) in edges.iter().enumerate() {
@@ -117,7 +114,7 @@ fn all_go_below(edges: &[Items<(usize, u64)>]) -> bool
 /// The order of vertices with these edges, or None where there is a cycle.
 pub(crate) fn edge_order(
     alloc: Global,
-    edges: &[Items<(usize, u64)>],
+    edges: &[EdgeList],
 ) -> Result<Option<Vec<usize>>, AllocError>
     requires { (number other : ℕ) → GoesTo edges.now number other → other < length edges.now }
     ensures order { IfOk result (λ answer. IfSome answer (λ order.

@@ -13,6 +13,7 @@ use super::refusal::LoadRefusal;
 use super::unresolved::Named;
 use names::Digest;
 use ordering::Table;
+use smallvec::SmallVec;
 use std::alloc::Global;
 
 /// The value of a lower-case digit, or any number for another byte. It has no branches, since digits come in no
@@ -97,13 +98,13 @@ pub(crate) fn edges_of(
     table: &Table,
     place: usize,
     all: &[Named],
-) -> Result<Vec<(usize, u64)>, LoadRefusal>
+) -> Result<SmallVec<(usize, u64), 1>, LoadRefusal>
     ensures check { (inputs : List (Input Text)) (digests : List SpecDigest) (vertices : List Vertex) → AllZip NamesAs inputs all.now
         → Numbers digests vertices table.now → Meets (Each (InputCheck digests place) inputs) result }
     ensures edges { (inputs : List (Input Text)) (digests : List SpecDigest) (vertices : List Vertex) → AllZip NamesAs inputs all.now
         → Numbers digests vertices table.now → IfOk result (λ edges. AreEdges vertices inputs edges.items) }
 {
-    let mut edges = Vec::with_capacity(alloc, all.len())?;
+    let mut edges = SmallVec::with_capacity(alloc, all.len())?;
     for named in all {
         edges.push(edge_of(table, place, named)?)?;
     }

@@ -2,8 +2,9 @@ ghost use Rattle.std.specs.Prelude.{◌≡◌, ◌<◌, length, slice_get, Some,
 ghost use Rattle.vertices.specs.declared.vertex.Vertex.{Vertex as SpecVertex};
 ghost use Rattle.vertices.specs.Loading.{GraphParts, IsGraph, digest_in};
 
+use super::edge_list::EdgeList;
 use super::vertex::{Source, Vertex};
-use names::{Digest, Items};
+use names::Digest;
 use opsproto::{WireOp, stripped_place};
 use protowire::{SharedBodies, SharedBytes};
 use std::alloc::{AllocError, Global};
@@ -14,7 +15,7 @@ use std::marker::Model;
 pub struct Graph {
     pub(crate) entries: SharedBodies,
     pub(crate) sources: Vec<Source>,
-    pub(crate) edges: Vec<Items<(usize, u64)>>,
+    pub(crate) edges: Vec<EdgeList>,
     pub(crate) order: Vec<usize>,
     pub(crate) result: (usize, u64),
 }

@@ -2,6 +2,7 @@
 #![tactic(auto)]
 
 mod building;
+mod edge_list;
 mod edges;
 mod execs;
 mod graph;

@@ -15,20 +15,22 @@ use super::refusal::LoadRefusal;
 use bumpalo::Bump;
 use names::Digest;
 use opsproto::{Input, LentOp, LentText};
+use smallvec::SmallVec;
 use std::alloc::{AllocError, Global};
 
 /// What an input names: a digest, where its text spells one, and an output's index.
-#[derive(Drop)]
+#[derive(Default, Drop)]
 pub(crate) struct Named {
     pub digest: Option<Digest>,
     pub index: i64,
 }
 
-/// What is to be checked of a vertex: the inputs that it names, and the first fault of what it does.
+/// What is to be checked of a vertex: the inputs that it names, and the first fault of what it does. One input takes no memory of
+/// its own.
 #[derive(Drop)]
 pub(crate) struct Asked {
     pub place: usize,
-    pub inputs: Vec<Named>,
+    pub inputs: SmallVec<Named, 1>,
     pub fault: Option<LoadRefusal>,
 }
 
@@ -62,10 +64,13 @@ impl Named {
     }
 }
 
-fn all_named(alloc: Global, inputs: &[Input<LentText<'_>>]) -> Result<Vec<Named>, AllocError>
+fn all_named(
+    alloc: Global,
+    inputs: &[Input<LentText<'_>>],
+) -> Result<SmallVec<Named, 1>, AllocError>
     ensures { IfOk result (λ all. AllZip NamesAs inputs.now all.items) }
 {
-    let mut all = Vec::with_capacity(alloc, inputs.len())?;
+    let mut all = SmallVec::with_capacity(alloc, inputs.len())?;
     for input in inputs {
         all.push(Named::of_lent(input))?;
     }

@@ -29,7 +29,7 @@ loop-named-preserved c =
           (c.loop-named.invariant.passes inputs digests vertices zip n) (c.in_ok-edge_of.ensures.check x.0 digests vertices x.2 n);
       edges = λ inputs digests vertices zip n.
           let x = all_zip_back NamesAs inputs c.args.all.now k _ zip (slice_get-get_or c.args.all.now k _ c.loop-named-test.true) in
-          subst (AreEdges vertices (take (k + 1) inputs)) (sym c.in_ok-push.ensures.items)
+          subst (AreEdges vertices (take (k + 1) inputs)) (sym c.in_ok-push.ensures.ok)
           (edges_more vertices inputs k x.0 c.loop-named.edges.items c.in_ok-edge_of.field-0 x.1
           (c.loop-named.invariant.edges inputs digests vertices zip n) (c.in_ok-edge_of.ensures.edge x.0 digests vertices x.2 n));
     }

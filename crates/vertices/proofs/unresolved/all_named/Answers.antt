@@ -15,5 +15,5 @@ loop-input-preserved c =
     let x = c.input-item.result in
     let at = slice_get-get_or inputs k x c.loop-input-test.true ∙ ap (λ (m : Input Text). Some m) (sym c.input-item.is) in
     subst (λ (xs : List (Input Text)). AllZip NamesAs xs c.push.new.self.items) (sym (take_push inputs k x at))
-    (subst (λ (ns : List Named). AllZip NamesAs (take k inputs ++ x ∷ []) ns) (sym c.in_ok-push.ensures.items)
+    (subst (λ (ns : List Named). AllZip NamesAs (take k inputs ++ x ∷ []) ns) (sym c.in_ok-push.ensures.ok)
     (AllZip-push NamesAs (take k inputs) c.loop-input.all.items x c.of_lent.result c.loop-input.invariant c.of_lent.ensures))
