@@ -35,7 +35,7 @@ use Rattle.protocol.specs.Ledger.{Ledger, Work, Saved, saves}
 use Rattle.protocol.specs.Lists.{In}
 use Rattle.protocol.specs.Machine.{Said}
 use Rattle.protocol.specs.Processes as process
-use Rattle.protocol.specs.Processes.{Processes, MayCome, batch, begin_batch, decided, is_down}
+use Rattle.protocol.specs.Processes.{Processes, MayCome, batch, begin_batch, decided, killed_after}
 use Rattle.protocol.specs.Processes.CoordinatorDoes.{Fails, Is_killed}
 use Rattle.saverecord.specs.Logs.{Holds, saved_in}
 use Rattle.saverecord.specs.Texts.{Texts}
@@ -175,9 +175,9 @@ module _ (sha : List ℕ → Digest) (p : Processes) where
       let q : Ledger = ledger old.held in
       let disk : Saved = saved_in old.keeper.texts in
       same_process sha p _ (gone_with texts) []
-      (ap (λ r. is_down (process.taken r (begin_batch q disk))) is
+      (ap (λ r. killed_after (process.taken r (begin_batch q disk))) is
       ∙ (λ i. record { memory = None; disk = (ap (λ b. if b then saves w.ledger else disk) changed ∙ sym (held_in texts (saves w.ledger) holds)) i }))
-      (does_silently sha p (process_of kept_of old) (is_down (batch farm_limits (call ∷ []) (begin_batch q disk))) [] at
+      (does_silently sha p (process_of kept_of old) (killed_after (batch farm_limits (call ∷ []) (begin_batch q disk))) [] at
       (Fails q (call ∷ []) [] (ap (λ b. memory_of b q) up) (one_call file_saves FileLoads FileSyncs kept_of file_texts gathered_file (p.written ++ []) call may)))
 
   save_went : (changed : Bool) (s : Saved) (old new : Filed) → Inv old → (changed ≡ true → (texts : Texts) → Holds texts s → Reached texts) → SavesIf file_saves changed s old new → Went old new

@@ -20,10 +20,10 @@ use Rattle.events.specs.declared.answer.CoordRefusal.TheVariants.{Down, SaveFaul
 use Rattle.protocol.specs.Farm.{farm_limits}
 use Rattle.protocol.specs.Ledger.{Ledger, Work, Saved, saves, reads}
 use Rattle.protocol.specs.Lists.{In}
-use Rattle.protocol.specs.Machine.{Told, Said, IsPartOf}
+use Rattle.protocol.specs.Machine.{Told, Said, HasPart}
 use Rattle.protocol.proofs.Following.{part_refl, part_none}
 use Rattle.protocol.specs.Processes as process
-use Rattle.protocol.specs.Processes.{Coordinator, Processes, Runs, MayCome, AllMayCome, decided, batch, begin_batch, is_up, is_down}
+use Rattle.protocol.specs.Processes.{Coordinator, Processes, Runs, MayCome, AllMayCome, decided, batch, begin_batch, running_after, killed_after}
 use Rattle.protocol.specs.Processes.CoordinatorDoes.{Works, Fails, Is_killed, Starts}
 use Rattle.protocol.specs.Processes.Happens.{Coordinator_does}
 use Rattle.protocol.specs.Processes.Runs.{Rests, Goes_on}
@@ -45,7 +45,7 @@ use Rattle.coordinatorlines.specs.Calls.Asks.{Heard, Own}
 use Rattle.coordinatorfilter.specs.Carried.{Saving, Loading, Syncing, RestartsIf, CarriesOut}
 use Rattle.services.specs.Served as served
 use Rattle.services.specs.Served.{joined, settled_text}
-use Rattle.coordinatorfilter.specs.Written.{fact_lines, Filters, Settles}
+use Rattle.coordinatorfilter.specs.Written.{fact_lines, Filters, MakesLast}
 use Rattle.coordinatorfilter.specs.Written.Filters.{Calls, Stops, Shows, Drops}
 use Rattle.coordinatorfilter.specs.Rules.{AddsEntry, IsHonest, file_saves, memory_of, process_of, with_coordinator, filter_steps, sends_of, line_messages, messages_of, settled_messages, batch_messages, gone_with, LastsWhileUp, ABatchIsARun, AKillIsARun, AStartIsARun, ABatchOverFilesIsARun, AKillOverFilesIsARun, AStartOverFilesIsARun}
 use Rattle.services.specs.Says.{Says, AreOfTheFarm}
@@ -145,7 +145,7 @@ module _ {K : Type 0} (saving : Saving K) (loading : Loading K) (syncing : Synci
 
   -- what is written of an answer: its messages, or nothing where they are lost
   abbrev pub AreSaid : Result Handled CoordRefusal → List Message → Type 0
-  AreSaid (Ok h) said = IsPartOf (map Told h.sends) said
+  AreSaid (Ok h) said = HasPart (map Told h.sends) said
   AreSaid (Err e) said = said ≡ []
 
   silently : (sha : List ℕ → Digest) (p : Processes) (c : Coordinator) (messages said : List Message) → said ≡ [] → Comes sha p c messages → Comes sha p c (messages ++ said)
@@ -173,13 +173,13 @@ module _ {K : Type 0} (saving : Saving K) (loading : Loading K) (syncing : Synci
   answered sha p messages said call (Ok w) old new (Ok done) is up may answer h part =
       let q : Ledger = ledger old.held in
       let disk : Saved = saved_in (kept old.keeper) in
-      let sends : IsPartOf (map Told w.sends) said = subst (λ ys. IsPartOf (map Told ys) said) answer.sends part in
-      let one : process.CoordinatorDoes farm_limits NODES (p.written ++ messages) (process_of kept old) said (is_up (batch farm_limits (call ∷ []) (begin_batch q disk))) =
-      Works q (call ∷ []) said (ap (λ b. memory_of b q) up) (one_call (p.written ++ messages) call may) (subst (λ r. IsPartOf (process.taken r (begin_batch q disk)).sends said) (sym is) sends) in
-      let after : is_up (process.taken (Ok w) (begin_batch q disk)) ≡ process_of kept new =
+      let sends : HasPart (map Told w.sends) said = subst (λ ys. HasPart (map Told ys) said) answer.sends part in
+      let one : process.CoordinatorDoes farm_limits NODES (p.written ++ messages) (process_of kept old) said (running_after (batch farm_limits (call ∷ []) (begin_batch q disk))) =
+      Works q (call ∷ []) said (ap (λ b. memory_of b q) up) (one_call (p.written ++ messages) call may) (subst (λ r. HasPart (process.taken r (begin_batch q disk)).sends said) (sym is) sends) in
+      let after : running_after (process.taken (Ok w) (begin_batch q disk)) ≡ process_of kept new =
       λ i. record { memory = (ap (λ l. Some l) (sym answer.ledger) ∙ ap (λ b. memory_of b (ledger new.held)) (sym answer.up)) i; disk = disk_is w.changed (saves w.ledger) old.keeper new.keeper answer.saved i } in
       does sha p (process_of kept old) (process_of kept new) messages said h (subst (λ c. process.CoordinatorDoes farm_limits NODES (p.written ++ messages) (process_of kept old) said c)
-      (ap (λ r. is_up (process.taken r (begin_batch q disk))) is ∙ after) one)
+      (ap (λ r. running_after (process.taken r (begin_batch q disk))) is ∙ after) one)
   answered sha p messages said call (Ok w) old new (Err SaveFault) is up may answer h none =
       let q : Ledger = ledger old.held in
       let disk : Saved = saved_in (kept old.keeper) in
@@ -188,13 +188,13 @@ module _ {K : Type 0} (saving : Saving K) (loading : Loading K) (syncing : Synci
       silently sha p (process_of kept new) messages said none
       (elim (fails_keep old.keeper answer.saved.texts new.keeper answer.saved.left) [
         | inl still ↦ same_process sha p _ (process_of kept new) messages (λ i. record { memory = over i; disk = saved_in (sym still i) })
-            (does_silently sha p (process_of kept old) (is_down (batch farm_limits [] (begin_batch q disk))) messages h (Fails q [] [] memory (no_call (p.written ++ messages))))
+            (does_silently sha p (process_of kept old) (killed_after (batch farm_limits [] (begin_batch q disk))) messages h (Fails q [] [] memory (no_call (p.written ++ messages))))
         | inr stands ↦ same_process sha p _ (process_of kept new) messages
-            (ap (λ r. is_down (process.taken r (begin_batch q disk))) is ∙ (λ i. record {
+            (ap (λ r. killed_after (process.taken r (begin_batch q disk))) is ∙ (λ i. record {
               memory = over i;
               disk = (ap (λ b. if b then saves w.ledger else disk) answer.changed ∙ sym (ap saved_in stands ∙ held_in answer.saved.texts (saves w.ledger) answer.saved.holds)) i;
             }))
-            (does_silently sha p (process_of kept old) (is_down (batch farm_limits (call ∷ []) (begin_batch q disk))) messages h (Fails q (call ∷ []) [] memory (one_call (p.written ++ messages) call may)))
+            (does_silently sha p (process_of kept old) (killed_after (batch farm_limits (call ∷ []) (begin_batch q disk))) messages h (Fails q (call ∷ []) [] memory (one_call (p.written ++ messages) call may)))
       ])
   answered sha p messages said call (Ok w) old new (Err Down) is up may answer h none =
       silently sha p (process_of kept new) messages said none (same_process sha p _ _ messages (ap (process_of kept) (sym answer.1)) h)
@@ -341,7 +341,7 @@ module _ {K : Type 0} (saving : Saving K) (loading : Loading K) (syncing : Synci
 
   pub made : (sha : List ℕ → Digest) (key : List ℕ) (limit : ℕ) (lines answers : List (List ℕ)) (settled : Settled) (old mid new : Seen K) (p : Processes)
       → Comes sha p (process_of kept old) [] → AreHeard p.written key lines → (h : served.Answers (filter_steps saving loading kept key) limit old lines answers mid)
-      → Settles syncing loading kept lasting mid settled new →
+      → MakesLast syncing loading kept lasting mid settled new →
       let messages : List Message = settled_messages settled (messages_of saving loading kept key limit old mid lines answers h) in
       Comes sha p (process_of kept new) messages × LastsWhileUp kept new lasting × Says key messages (settled_text settled answers)
   made sha key limit lines answers Lasts old mid new p comes heard h s = (

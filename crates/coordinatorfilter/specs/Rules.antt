@@ -1,5 +1,4 @@
--- A coordinator's filter is the coordinator of protocol's processes: what it does with lines is what the rules let that
--- do.
+-- A coordinator's filter is the coordinator of protocol's processes: it does with lines only what the rules allow.
 use Rattle.std.specs.Prelude.{◌≡◌, ◌⊎◌, ℕ, Bool, true, false, List, [], ◌∷◌, ◌++◌, map, Option, Some, None, Result, Ok, Err, ⊤}
 use mathlib.Core.Logic.{inl, inr}
 use Rattle.ledger.specs.declared.handled.Handled.{Handled}
@@ -26,7 +25,7 @@ use Rattle.services.specs.declared.settled.Settled.TheVariants.{Lasts, Failed}
 use Rattle.coordinatorfilter.specs.Carried.{Saving, Loading, Syncing}
 use Rattle.services.specs.Says.{Says, AreOfTheFarm}
 use Rattle.services.specs.Served.{Steps, Settling, Answers, Batch}
-use Rattle.coordinatorfilter.specs.Written.{Filters, Settles}
+use Rattle.coordinatorfilter.specs.Written.{Filters, MakesLast}
 use Rattle.coordinatorfilter.specs.Written.Filters.{Calls, Stops, Shows, Drops}
 
 -- an entry is kept behind all others, and as much lasts as before
@@ -118,7 +117,7 @@ settled_messages (Failed restart) messages = []
 
 abbrev pub batch_messages : {K : Type 0} (saving : Saving K) (loading : Loading K) (syncing : Syncing K)
     (kept lasting : K → Texts) (key : List ℕ) (limit : ℕ) (lines : List (List ℕ)) (text : List ℕ) (old new : Seen K)
-    → Batch (filter_steps saving loading kept key) (Settles syncing loading kept lasting) limit lines text old new
+    → Batch (filter_steps saving loading kept key) (MakesLast syncing loading kept lasting) limit lines text old new
     → List Message
 batch_messages saving loading syncing kept lasting key limit lines text old new b =
     settled_messages b.settled (messages_of saving loading kept key limit old b.answered_to lines b.answers b.answered)
@@ -132,7 +131,7 @@ ABatchIsARun {K} saving loading syncing kept lasting =
     (sha : List ℕ → Digest) (key : List ℕ) (limit : ℕ) (lines : List (List ℕ)) (text : List ℕ) (old new : Seen K)
     (p : Processes)
     → p.coordinator ≡ process_of kept old → AreOfTheFarm key lines p.written
-    → (b : Batch (filter_steps saving loading kept key) (Settles syncing loading kept lasting) limit lines text old new) →
+    → (b : Batch (filter_steps saving loading kept key) (MakesLast syncing loading kept lasting) limit lines text old new) →
     let messages : List Message = batch_messages saving loading syncing kept lasting key limit lines text old new b in
     Runs sha farm_limits NODES p (with_coordinator p (process_of kept new) messages) × LastsWhileUp kept new lasting
     × Says key messages text
@@ -188,10 +187,10 @@ abbrev pub file_steps : List ℕ → Steps (Seen Filed)
 file_steps key = filter_steps file_saves FileLoads (λ f. f.texts) key
 
 abbrev pub file_settles : Settling (Seen Filed)
-file_settles = Settles FileSyncs FileLoads (λ f. f.texts) file_texts
+file_settles = MakesLast FileSyncs FileLoads (λ f. f.texts) file_texts
 
--- from the first of these coordinators to the last it answered batches, and of none could it make the answers last: so
--- none of these was written
+-- from the first of these coordinators to the last it answered batches, but could make none of their answers last, and
+-- wrote none
 pub data Falters (Hears : List (List ℕ) → Type 0) (key : List ℕ) (first : Seen Filed) : Seen Filed → Type 0 where
   Not_yet : Falters Hears key first first
   Once_more : (limit : ℕ) (lines : List (List ℕ)) (text : List ℕ) (old new : Seen Filed) (restart : Result ⊤ CoordRefusal)

@@ -90,9 +90,9 @@ pub data Filters {K : Type 0} (saving : Saving K) (loading : Loading K) (kept : 
 
 -- ---- what was answered is made to last
 
--- the keeper makes it last; or it can't, and the coordinator restarts
-abbrev pub Settles : {K : Type 0} → Syncing K → Loading K → (K → Texts) → (K → Texts) → Seen K → Settled → Seen K
+-- the keeper makes all that it keeps last; or it can't, and the coordinator restarts
+abbrev pub MakesLast : {K : Type 0} → Syncing K → Loading K → (K → Texts) → (K → Texts) → Seen K → Settled → Seen K
     → Type 0
-Settles syncing loading kept lasting old Lasts new = Syncs syncing old true new × (lasting new.keeper ≡ kept new.keeper)
-Settles {K} syncing loading kept lasting old (Failed restart) new = (failed : Seen K) × Syncs syncing old false failed
+MakesLast syncing loading kept lasting old Lasts new = Syncs syncing old true new × (lasting new.keeper ≡ kept new.keeper)
+MakesLast {K} syncing loading kept lasting old (Failed restart) new = (failed : Seen K) × Syncs syncing old false failed
     × Restarts loading (kept failed.keeper) failed new restart

@@ -1,7 +1,7 @@
 //! A coordinator as a process that answers lines.
 ghost use Rattle.std.specs.Prelude.{◌≡◌};
 ghost use Rattle.services.specs.Served.{answer_text};
-ghost use Rattle.coordinatorfilter.specs.Written.{Filters, Settles};
+ghost use Rattle.coordinatorfilter.specs.Written.{Filters, MakesLast};
 
 use super::carrying::carry_out;
 use super::printing::print_reply;
@@ -42,11 +42,11 @@ impl<K: Keeper> CoordinatorFilter<K> {
 }
 
 impl<K: Keeper> Step for CoordinatorFilter<K> {
-    ghost use Rattle.coordinatorfilter.specs.Written.{Filters, Settles};
+    ghost use Rattle.coordinatorfilter.specs.Written.{Filters, MakesLast};
 
     ghost steps = { λ old line answer new. Filters K.saving K.loading K.kept old.key line answer old.coordinator new.coordinator × (new.key ≡ old.key) };
 
-    ghost settles = { λ old settled new. Settles K.syncing K.loading K.kept K.lasting old.coordinator settled new.coordinator × (new.key ≡ old.key) };
+    ghost settles = { λ old settled new. MakesLast K.syncing K.loading K.kept K.lasting old.coordinator settled new.coordinator × (new.key ≡ old.key) };
 
     fn step(&mut self, alloc: Global, line: Result<Items<u8>, Lost>) -> Answer {
         Answer::of(self.text_of(alloc, line))

@@ -14,10 +14,11 @@ use Rattle.protocol.specs.Lawful.{IsLawful}
 abbrev pub is_held_up : Ledger → Parked → Bool
 is_held_up q p = elsewhere q p || busy (is_leased q) (leased_wants p.tenure p.wants)
 
--- each parked ask does
+-- each parked ask waits so
 abbrev pub AreHeldUp : Ledger → Type 0
 AreHeldUp q = (p : Parked) → In p q.parked → is_held_up q p ≡ true
 
+-- its leases may be live together, and its tickets are in order
 pub record IsSound (q : Ledger) : Type 0 where
   pub leases : AreLeases q.live
   -- no ticket is above the last

@@ -22,8 +22,8 @@ use Rattle.events.specs.declared.answer.NodeRefusal.TheVariants as refusal
 use Rattle.protocol.specs.Farm.{farm_limits}
 use Rattle.protocol.specs.Lawful.{IsNumber}
 use Rattle.protocol.specs.Lists.{In, put}
-use Rattle.protocol.specs.Machine.{IsPartOf, hello}
-use Rattle.protocol.specs.Machine.IsPartOf.{Ends_part, Keeps, Leaves}
+use Rattle.protocol.specs.Machine.{HasPart, hello}
+use Rattle.protocol.specs.Machine.HasPart.{Ends_part, Keeps, Leaves}
 use Rattle.protocol.specs.Nodes.{Place, NodeWork, guard, nothing, received, unless_spent}
 use Rattle.protocol.specs.Processes as process
 use Rattle.protocol.specs.Processes.{Processes, Runs, MayReach, node_decided, NodeDoes}
@@ -123,7 +123,7 @@ silent p q me x messages said none h = subst (λ ms. Went_on p me x ms q) (sym (
 
 -- what is written of an answer: its messages, or nothing where they are lost
 abbrev AreSaid : Result NodeDone NodeRefusal → List Message → Type 0
-AreSaid (Ok done) said = IsPartOf done.sends said
+AreSaid (Ok done) said = HasPart done.sends said
 AreSaid (Err e) said = said ≡ []
 
 -- ---- lines from outside
@@ -152,7 +152,7 @@ MayBeHeard written (call.Bring content) = Unit {0}
 MayBeHeard written (call.Forget digest) = Unit {0}
 
 -- of nothing nothing is a part
-part_of_none : (xs said : List Message) → IsPartOf xs said → xs ≡ [] → said ≡ []
+part_of_none : (xs said : List Message) → HasPart xs said → xs ≡ [] → said ≡ []
 part_of_none xs said Ends_part none = refl
 part_of_none xs said (Keeps x ys zs part) none = absurd (cc none)
 part_of_none xs said (Leaves x ys zs part) none = absurd (cc none)
@@ -172,7 +172,7 @@ place_is at me itself = λ i. record { node = itself i; nodes = at.nodes }
 -- the rules let the node do the call so
 acted : (p q : Processes) (at : Place) (me : NodeId) (x new : Node) (messages said : List Message) (c : process.NodeCall) (done : NodeDone)
     → IsNumber NODES me → at.node ≡ me → MayReach q.written me c → node_decided content_digest farm_limits at x c ≡ Ok (work_of new done)
-    → Went_on p me x messages q → IsPartOf done.sends said → (r : Processes) × Went_on p me new (messages ++ said) r
+    → Went_on p me x messages q → HasPart done.sends said → (r : Processes) × Went_on p me new (messages ++ said) r
 acted p q at me x new messages said c done number itself may is h part =
     acts p q me x new messages said number h
     (Acts at.nodes c (work_of new done) said may (subst (λ a. node_decided content_digest farm_limits a x c ≡ Ok (work_of new done)) (place_is at me itself) is) part)
@@ -180,7 +180,7 @@ acted p q at me x new messages said c done number itself may is h part =
 -- a message for this node is received, and another one ignored
 heard_by : (p q : Processes) (at : Place) (me : NodeId) (x new : Node) (messages said : List Message) (m : ToNode) (done : NodeDone) (here : Bool)
     → IsNumber NODES me → at.node ≡ me → In (to.ToNode m) q.written → ((receiver m).0 == at.node.0) ≡ here → unless_spent x (hearing at x m) ≡ Ok (work_of new done)
-    → Went_on p me x messages q → IsPartOf done.sends said → (r : Processes) × Went_on p me new (messages ++ said) r
+    → Went_on p me x messages q → HasPart done.sends said → (r : Processes) × Went_on p me new (messages ++ said) r
 heard_by p q at me x new messages said m done true number itself written here is h part =
     acted p q at me x new messages said (process.Receive m) done number itself
     (written, same_node (receiver m) me (eqb-true (receiver m).0 at.node.0 here ∙ ap (λ (n : NodeId). n.0) itself))
@@ -191,7 +191,7 @@ heard_by p q at me x new messages said m done false number itself written apart 
 
 called_so : (p q : Processes) (at : Place) (me : NodeId) (x new : Node) (messages said : List Message) (c : Call) (done : NodeDone)
     → IsNumber NODES me → at.node ≡ me → MayBeHeard q.written c → node_answer me at x c ≡ Ok (work_of new done)
-    → Went_on p me x messages q → IsPartOf done.sends said → (r : Processes) × Went_on p me new (messages ++ said) r
+    → Went_on p me x messages q → HasPart done.sends said → (r : Processes) × Went_on p me new (messages ++ said) r
 called_so p q at me x new messages said (call.Receive m) done number itself may is h part =
     heard_by p q at me x new messages said m done ((receiver m).0 == at.node.0) number itself may refl is h part
 called_so p q at me x new messages said (call.Bring content) done number itself may is h part =

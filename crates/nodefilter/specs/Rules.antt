@@ -1,4 +1,4 @@
--- A node's filter is a node of protocol's processes: what it does with lines is what the rules let that do.
+-- A node's filter is a node of protocol's processes: it does with lines only what the rules allow.
 use Rattle.std.specs.Prelude.{◌≡◌, ℕ, ◌≤◌, Bool, true, false, List, [], ◌∷◌, ◌++◌, Some, Result, Ok, Err}
 use mathlib.Core.Logic.{inl, inr}
 use Rattle.std.specs.List.{All}

@@ -33,7 +33,7 @@ use Rattle.processes.specs.Served.{started_text}
 use Rattle.services.specs.Says.{Offers, AreWritten}
 use Rattle.services.specs.Served.{Steps, Settling, Answers, Batch}
 use Rattle.services.specs.declared.settled.Settled.TheVariants.{Failed}
-use Rattle.coordinatorfilter.specs.Written.{Settles}
+use Rattle.coordinatorfilter.specs.Written.{MakesLast}
 
 abbrev pub texts_of : Filed → Texts
 texts_of f = f.texts
@@ -47,7 +47,7 @@ abbrev pub coordinator_steps : List ℕ → Steps (Seen Filed)
 coordinator_steps key = filter_steps file_saves FileLoads texts_of key
 
 abbrev pub coordinator_settles : Settling (Seen Filed)
-coordinator_settles = Settles FileSyncs FileLoads texts_of file_texts
+coordinator_settles = MakesLast FileSyncs FileLoads texts_of file_texts
 
 abbrev pub coordinator_messages : (key : List ℕ) (limit : ℕ) (lines : List (List ℕ)) (text : List ℕ) (old new : Seen Filed)
     → Batch (coordinator_steps key) coordinator_settles limit lines text old new → List Message

@@ -13,7 +13,7 @@ use Rattle.coordinatorfilter.specs.Carried.{Saving, Loading, Syncing}
 use Rattle.services.specs.Lines.{lines_behind}
 use Rattle.coordinatorfilter.specs.Rules.{filter_steps}
 use Rattle.services.specs.Served.{Serves}
-use Rattle.coordinatorfilter.specs.Written.{Settles}
+use Rattle.coordinatorfilter.specs.Written.{MakesLast}
 
 -- what a coordinator writes first
 abbrev pub started_text : List ℕ
@@ -24,7 +24,7 @@ started_text = codes "= started\n"
 abbrev pub IsServed : {K : Type 0} → Saving K → Loading K → Syncing K → (K → Texts) → (K → Texts) → List ℕ → List ℕ
     → Seen K → Seen K → Option (List ℕ) → Option (List ℕ) → Type 0
 IsServed saving loading syncing kept lasting key text old new before after =
-    Serves (filter_steps saving loading kept key) (Settles syncing loading kept lasting) (LINE_LIMIT + 2) started_text (lines_behind [] text) old new before after
+    Serves (filter_steps saving loading kept key) (MakesLast syncing loading kept lasting) (LINE_LIMIT + 2) started_text (lines_behind [] text) old new before after
 
 -- a node greeted, and then answered each whole line of the text, each from what the one before it left
 abbrev pub IsNodeServed : {S : Type 0} → Kept S → (S → ℕ) → Started S → List ℕ → Option (List ℕ) → Option (List ℕ) → Type 0

@@ -6,7 +6,7 @@ use Rattle.farm_base.specs.Kinds.{has_shared, is_tenure, IsKind}
 use Rattle.farm_base.proofs.KindLemmas.{shared_back, tenure_back}
 use Rattle.protocol.specs.Lists.{In}
 use Rattle.protocol.specs.Names.{Mode, Shared, Private, Locked, Slot, slot_eq, slots_eq, is_private, only_slot, IsInstance, Digest, NodeId, Life, Ask, Ticket, Want, FolderName, any_shared, leased_wants, tenure_wants}
-use Rattle.protocol.specs.Machine.{Grant, GrantedSlot, News, Ending, Granted, Pruned, ticket_of, Withdrawn, Message, FromCoord, Parked, Machine, Live, Free, Based, AnswersAsk, SameAsk, want_of, line, version_at, slots_of, Names, written, acquire, commit, release, IsPartOf, Ends_part, Keeps, Leaves, Step, Grants, Ends, Prunes, Sees, Retires, Parks, Unparks, Raises, Steps, No_step, One_more, Says, Says_granted, Says_committed, Says_fenced, Says_denied, Says_recall}
+use Rattle.protocol.specs.Machine.{Grant, GrantedSlot, News, Ending, Granted, Pruned, ticket_of, Withdrawn, Message, FromCoord, Parked, Machine, Live, Free, Based, AnswersAsk, SameAsk, want_of, line, version_at, slots_of, Names, written, acquire, commit, release, HasPart, Ends_part, Keeps, Leaves, Step, Grants, Ends, Prunes, Sees, Retires, Parks, Unparks, Raises, Steps, No_step, One_more, Says, Says_granted, Says_committed, Says_fenced, Says_denied, Says_recall}
 use Rattle.farm_base.specs.declared.message.FromCoord.TheVariants as told
 use Rattle.farm_base.specs.declared.message.Why.{Why}
 use Rattle.events.specs.declared.answer.CoordNote.{CoordNote}
@@ -84,18 +84,18 @@ works_steps empty pool a b sends Begins_work = No_step a
 works_steps empty pool a b sends (Goes_on c d ss works step) = One_more a c b (works_steps empty pool a c sends works) step
 works_steps empty pool a b sends (Speaks c ss y works may) = works_steps empty pool a b ss works
 
-pub part_refl : {A : Type 0} (xs : List A) → IsPartOf xs xs
+pub part_refl : {A : Type 0} (xs : List A) → HasPart xs xs
 part_refl [] = Ends_part
 part_refl (x ∷ xs) = Keeps x xs xs (part_refl xs)
 
-pub part_filter : {A : Type 0} (test : A → Bool) (xs : List A) → IsPartOf xs (filter test xs)
+pub part_filter : {A : Type 0} (test : A → Bool) (xs : List A) → HasPart xs (filter test xs)
 part_filter test [] = Ends_part
 part_filter test (x ∷ xs) = elim (cases_Bool (test x)) [
   | inl t ↦ rw t (Keeps x xs (filter test xs) (part_filter test xs))
   | inr t ↦ rw t (Leaves x xs (filter test xs) (part_filter test xs))
 ]
 
-pub part_none : {A : Type 0} (xs : List A) → IsPartOf xs []
+pub part_none : {A : Type 0} (xs : List A) → HasPart xs []
 part_none [] = Ends_part
 part_none (x ∷ xs) = Leaves x xs [] (part_none xs)
 
@@ -337,7 +337,7 @@ module _ (k : Limits) (fits : k.instances ≤ 4096) (pool : List Message) (m : M
       let ps : List Parked = w.ledger.parked in
       let g = try_going ps w (going w f) f.agrees.asked f.agrees.waits in
       let stay : List Parked = waiting k ps w in
-      let part : IsPartOf g.machine.parked stay = subst (λ l. IsPartOf l stay) (sym (try-parked k ps w) ∙ g.parked) (waiting_part k ps w) in
+      let part : HasPart g.machine.parked stay = subst (λ l. HasPart l stay) (sym (try-parked k ps w) ∙ g.parked) (waiting_part k ps w) in
       let next : Machine = record g.machine { parked = stay } in
       record {
         machine = next;

@@ -6,7 +6,7 @@ use Rattle.std.specs.List.{list_any, find}
 use Rattle.std.specs.Prelude.{⊤, nat_lt, if◌then◌else◌}
 use Rattle.protocol.specs.Lists.{In, is_nil}
 use Rattle.protocol.specs.Names.{Slot, slot_eq, slots_eq, Private, is_private, leased_wants, NodeId, Life, Ask, Ticket, Want, FolderName}
-use Rattle.protocol.specs.Machine.{Grant, Granted, News, slots_of, Message, FromCoord, ToCoord, Parked, IsPartOf, Ends_part, Keeps, Leaves, Machine, Has, Live, Retired, Ending, Withdrawn, ticket_of, line, LineVersion}
+use Rattle.protocol.specs.Machine.{Grant, Granted, News, slots_of, Message, FromCoord, ToCoord, Parked, HasPart, Ends_part, Keeps, Leaves, Machine, Has, Live, Retired, Ending, Withdrawn, ticket_of, line, LineVersion}
 use Rattle.farm_base.specs.declared.message.Request.{Request}
 use Rattle.farm_base.specs.declared.message.Request.TheVariants.{Hello, Acquire, Commit, Release}
 use Rattle.farm_base.specs.declared.message.FromCoord.TheVariants as told
@@ -557,7 +557,7 @@ module _ (k : Limits) where
 
 -- ---- the order in which asks wait
 
-part_trans : {A : Type 0} {xs ys zs : List A} → IsPartOf xs ys → IsPartOf ys zs → IsPartOf xs zs
+part_trans : {A : Type 0} {xs ys zs : List A} → HasPart xs ys → HasPart ys zs → HasPart xs zs
 part_trans (Leaves x xs ys a) b = Leaves x xs _ (part_trans a b)
 part_trans Ends_part Ends_part = Ends_part
 part_trans (Keeps x xs ys a) (Keeps y us zs b) = Keeps x xs zs (part_trans a b)
@@ -566,10 +566,10 @@ part_trans (Keeps x xs ys a) (Leaves y us zs b) = Leaves x xs zs (part_trans a b
 -- where an ask that is new may be one of these
 module _ (k : Limits) (q : Ledger) (B : Parked → Type 0) where
   abbrev Part : Work → Type 0
-  Part w = IsPartOf q.parked w.ledger.parked
+  Part w = HasPart q.parked w.ledger.parked
 
   abbrev pub Queue : Work → Type 0
-  Queue w = Part w ⊎ ((stay : List Parked) × (p : Parked) × IsPartOf q.parked stay × (In p q.parked → ⊥) × (w.ledger.parked ≡ stay ++ p ∷ []) × B p × (w.note ≡ note.Parked))
+  Queue w = Part w ⊎ ((stay : List Parked) × (p : Parked) × HasPart q.parked stay × (In p q.parked → ⊥) × (w.ledger.parked ≡ stay ++ p ∷ []) × B p × (w.note ≡ note.Parked))
 
   retried_part : (w : Work) → Part w → Part (retried k w)
   unfolding retried
@@ -690,7 +690,7 @@ module _ (k : Limits) (q : Ledger) (B : Parked → Type 0) where
       by false e = rw e refl
 
   pub nudged_queue : Queue (nudged k (begin_work q))
-  nudged_queue = inl (subst (IsPartOf q.parked) (sym (nudge-parked q.live (begin_work q))) (part_refl q.parked))
+  nudged_queue = inl (subst (HasPart q.parked) (sym (nudge-parked q.live (begin_work q))) (part_refl q.parked))
 
 -- ---- of the machine
 

@@ -7,7 +7,7 @@ use Rattle.std.specs.Prelude.{⊤, nat_lt, if◌then◌else◌}
 use Rattle.farm_base.specs.Kinds.{is_tenure}
 use Rattle.protocol.specs.Lists.{In, put, is_nil}
 use Rattle.protocol.specs.Names.{Slot, slot_eq, is_private, NodeId, Life, Ticket}
-use Rattle.protocol.specs.Machine.{Grant, GrantedSlot, LineVersion, Ending, Granted, Pruned, Withdrawn, Died, Message, Said, ToCoord, FromCoord, Parked, Machine, Has, Live, line, WasHeard, cleared, IsPartOf, Step, Prunes, Sees, Retires, Unparks, Raises, Says, Says_recall}
+use Rattle.protocol.specs.Machine.{Grant, GrantedSlot, LineVersion, Ending, Granted, Pruned, Withdrawn, Died, Message, Said, ToCoord, FromCoord, Parked, Machine, Has, Live, line, WasHeard, cleared, HasPart, Step, Prunes, Sees, Retires, Unparks, Raises, Says, Says_recall}
 use Rattle.farm_base.specs.declared.message.FromCoord.TheVariants as told
 use Rattle.events.specs.declared.answer.CoordNote.{CoordNote}
 use Rattle.events.specs.declared.answer.CoordNote.TheVariants as note
@@ -81,7 +81,7 @@ module _ (k : Limits) (fits : k.instances ≤ 4096) (pool : List Message) (m : M
         machine = next;
         ended = f.ended;
         granted = f.granted;
-        works = Goes_on b next w.sends f.works (Unparks ps (subst (λ l. IsPartOf l ps) f.agrees.parked (part_filter test w.ledger.parked)));
+        works = Goes_on b next w.sends f.works (Unparks ps (subst (λ l. HasPart l ps) f.agrees.parked (part_filter test w.ledger.parked)));
         agrees = agrees_from k.empty pool next (record w.ledger { parked = ps })
             (record { live_made = core.live_made; live_kept = core.live_kept; retired_made = core.retired_made; retired_kept = core.retired_kept; lines = core.lines; last = core.last; ceiling = core.ceiling; block = core.block; seen = core.seen; old_home = core.old_home; gone = core.gone; lives = core.lives })
             refl

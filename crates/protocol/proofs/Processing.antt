@@ -9,7 +9,7 @@ use Rattle.farm_base.specs.declared.message.ToNode.TheVariants as to_node
 use Rattle.farm_base.specs.declared.message.FromCoord.TheVariants as told
 use Rattle.protocol.specs.Lists.{In, IsFrontOf, put, nth}
 use Rattle.protocol.specs.Names.{NodeId, Life, Ask, Ticket, Slot, Digest, Want}
-use Rattle.protocol.specs.Machine.{Grant, LineVersion, Fetch, Blob, Message, Said, Told, hello, acquire, IsPartOf, Ends_part, Keeps, Leaves}
+use Rattle.protocol.specs.Machine.{Grant, LineVersion, Fetch, Blob, Message, Said, Told, hello, acquire, HasPart, Ends_part, Keeps, Leaves}
 use Rattle.events.specs.declared.answer.CoordRefusal.{CoordRefusal}
 use Rattle.events.specs.declared.answer.EventRefusal.TheVariants as refusal
 use Rattle.events.specs.declared.answer.Outcome.{Outcome}
@@ -23,7 +23,7 @@ use Rattle.protocol.specs.Nodes.{Place, guard, fetched, NodeWork, NodeAnswer, as
 use Rattle.protocol.specs.Replay.{Farm, Turn, Event, Deliver, RestartCoordinator, RestartNode, Forge, FailSave, settled, settles, coordinated, delivered, is_node, at, at_node, node_does, moved, answered, restarts, receiver, step, run, opening}
 use Rattle.protocol.specs.Replay as replay
 use Rattle.protocol.specs.Lawful.{IsNumber}
-use Rattle.protocol.specs.Processes.{Coordinator, Processes, Call, Handle, Withdraw, Prune, Retire, Nudge, MayCome, AllMayCome, decided, Batch, begin_batch, taken, batch, CoordinatorDoes, Works, Fails, Is_killed, Starts, NodeCall, Receive, Ask_lease, Ask_tenure, Begin, Finish, Abort, Resend, Bring, Forget, MayReach, node_decided, NodeDoes, Acts, Begins_life, Loses, Is_spent, Happens, Coordinator_does, Node_does, Runs, Rests, Goes_on, first_processes, IsNodeOf, IsOfLeases, IsFarmOf, AreScheduled, ProcessesAreTheFarm, Executes, StaySafe, ProcessesStaySafe, is_up, is_down, WithdrawnStaysOut, HasAsked, OnlyHonestAreAFarm, EveryFarmIsProcesses}
+use Rattle.protocol.specs.Processes.{Coordinator, Processes, Call, Handle, Withdraw, Prune, Retire, Nudge, MayCome, AllMayCome, decided, Batch, begin_batch, taken, batch, CoordinatorDoes, Works, Fails, Is_killed, Starts, NodeCall, Receive, Ask_lease, Ask_tenure, Begin, Finish, Abort, Resend, Bring, Forget, MayReach, node_decided, NodeDoes, Acts, Begins_life, Loses, Is_spent, Happens, Coordinator_does, Node_does, Runs, Rests, Goes_on, first_processes, IsNodeOf, IsOfLeases, IsFarmOf, AreScheduled, ProcessesAreTheFarm, Executes, StaySafe, ProcessesStaySafe, running_after, killed_after, WithdrawnStaysOut, HasAsked, OnlyHonestAreAFarm, EveryFarmIsProcesses}
 use Rattle.protocol.specs.Safe.{InUse, HoldsContent}
 use Rattle.protocol.specs.Follows.{IsFarm, SafeAfter}
 use Rattle.protocol.specs.Chronicle.{StaysOut, Headline, IsSavedFarm, Covered}
@@ -53,7 +53,7 @@ Carries xs ys = (m : Message) → IsOfLeases m → In m xs → In m ys
 abbrev Within : List Message → List Message → Type 0
 Within xs ys = (m : Message) → In m xs → In m ys
 
-part_within : {A : Type 0} {xs ys : List A} → IsPartOf xs ys → (x : A) → In x ys → In x xs
+part_within : {A : Type 0} {xs ys : List A} → HasPart xs ys → (x : A) → In x ys → In x xs
 part_within Ends_part m i = i
 part_within (Keeps x xs ys p) m (inl e) = inl e
 part_within (Keeps x xs ys p) m (inr i) = inr (part_within p m i)
@@ -558,8 +558,8 @@ module _ (sha : List ℕ → Digest) (k : Limits) (size : ℕ) where
     abbrev next_batch : Batch
     next_batch = taken (Ok w) first_batch
 
-    stays_off : (lines : List Message) → AllMayCome size p.written early → AllMayCome size p.written late → withdrawn k t (begin_work first_batch.ledger) ≡ Ok w → IsPartOf (batch k late next_batch).sends lines
-        → Runs sha k size (record p { coordinator = is_up (batch k late next_batch); written = p.written ++ lines }) later
+    stays_off : (lines : List Message) → AllMayCome size p.written early → AllMayCome size p.written late → withdrawn k t (begin_work first_batch.ledger) ≡ Ok w → HasPart (batch k late next_batch).sends lines
+        → Runs sha k size (record p { coordinator = running_after (batch k late next_batch); written = p.written ++ lines }) later
         → (s : Slot) (v : LineVersion) → In v (later.coordinator.disk.line s) → v.ticket ≡ t → ⊥
     stays_off lines may may_late ok part more s v i at =
         let one = all_next sha k size (first_processes sha) (first_at sha k size) p runs in
@@ -572,7 +572,7 @@ module _ (sha : List ℕ → Digest) (k : Limits) (size : ℕ) where
         let then_f2 : (step sha k f1 (replay.Withdraw t)).farm ≡ f2 = ws.0 ∙ d.1 in
         let r3 = reach sha k size a.nodes p.written late next_batch d.0 (λ m o i. d.2 m (r1.0.more m (a.written m o i))) d.3 may_late in
         let f3 : Farm = up_farm (batch k late next_batch) a.nodes r3.after in
-        let next_at : At sha k size (record p { coordinator = is_up (batch k late next_batch); written = p.written ++ lines }) = record {
+        let next_at : At sha k size (record p { coordinator = running_after (batch k late next_batch); written = p.written ++ lines }) = record {
           ledger = (batch k late next_batch).ledger;
           nodes = a.nodes;
           pool = r3.after;
@@ -580,7 +580,7 @@ module _ (sha : List ℕ → Digest) (k : Limits) (size : ℕ) where
           same = a.same;
           written = all_carried p.written lines r3.after (λ m o i. r3.more m (d.2 m (r1.0.more m (a.written m o i)))) (λ m o i. r3.sent m (part_within part m i));
         } in
-        let r4 = all_next sha k size (record p { coordinator = is_up (batch k late next_batch); written = p.written ++ lines }) next_at later more in
+        let r4 = all_next sha k size (record p { coordinator = running_after (batch k late next_batch); written = p.written ++ lines }) next_at later more in
         let last : Farm = farm_at sha k size later r4.0 in
         let l1 = leads_on sha k size (opening sha size) (farm_at sha k size p a) f1 one.1 r1.1 in
         let l4 = leads_on sha k size f2 f3 last r3.leads r4.1 in
@@ -599,8 +599,8 @@ withdrawn_stays_out sha k farm size p later runs q early late t w lines mem may 
     stays_off sha k size farm p later runs q mem early late t w lines
     (λ x i. may x (in_left x early (Withdraw t ∷ late) i))
     (λ x i. may x (in_right x early (Withdraw t ∷ late) (inr i)))
-    ok (subst (λ (z : Batch). IsPartOf z.sends lines) done part)
-    (subst (λ (z : Batch). Runs sha k size (record p { coordinator = is_up z; written = p.written ++ lines }) later) done more)
+    ok (subst (λ (z : Batch). HasPart z.sends lines) done part)
+    (subst (λ (z : Batch). Runs sha k size (record p { coordinator = running_after z; written = p.written ++ lines }) later) done more)
 
 -- ---- what processes are the farm of no schedule
 
@@ -642,7 +642,7 @@ module _ (sha : List ℕ → Digest) (k : Limits) where
   abbrev as_processes : Farm → Processes
   as_processes s = record { coordinator = record { memory = if s.down then None else Some s.ledger; disk = s.saved }; nodes = s.nodes; written = s.pool }
 
-  part_all : {A : Type 0} (xs : List A) → IsPartOf xs xs
+  part_all : {A : Type 0} (xs : List A) → HasPart xs xs
   part_all [] = Ends_part
   part_all (x ∷ xs) = Keeps x xs xs (part_all xs)
 
@@ -671,16 +671,16 @@ module _ (sha : List ℕ → Digest) (k : Limits) where
       first = begin_batch s.ledger s.saved
 
       worked_to : Result Work CoordRefusal → Processes
-      worked_to r = record { coordinator = is_up (taken r first); nodes = s.nodes; written = s.pool ++ (taken r first).sends }
+      worked_to r = record { coordinator = running_after (taken r first); nodes = s.nodes; written = s.pool ++ (taken r first).sends }
 
       failed_to : Batch → Processes
-      failed_to b = record { coordinator = is_down b; nodes = s.nodes; written = s.pool }
+      failed_to b = record { coordinator = killed_after b; nodes = s.nodes; written = s.pool }
 
       worked : (w : Work) → decided k s.ledger c ≡ Ok w → Runs sha k s.size (as_processes s) (worked_to (Ok w))
       worked w e =
           let did : Batch = taken (decided k s.ledger c) first in
           subst (λ r. Runs sha k s.size (as_processes s) (worked_to r)) e
-          (Goes_on (as_processes s) (as_processes s) (worked_to (decided k s.ledger c)) (Rests (as_processes s)) (Coordinator_does did.sends (is_up did) (Works s.ledger (c ∷ []) did.sends memory only (part_all did.sends))))
+          (Goes_on (as_processes s) (as_processes s) (worked_to (decided k s.ledger c)) (Rests (as_processes s)) (Coordinator_does did.sends (running_after did) (Works s.ledger (c ∷ []) did.sends memory only (part_all did.sends))))
 
       settle : (changed : Bool) (armed : Option Kept) (w : Work) → decided k s.ledger c ≡ Ok w → w.changed ≡ changed → Goes s (settled changed armed w s).farm
       settle false armed w e f =
@@ -689,10 +689,10 @@ module _ (sha : List ℕ → Digest) (k : Limits) where
       settle true None w e f =
           let same : worked_to (Ok w) ≡ as_processes (settled true None w s).farm = rw (up, f) refl in
           (subst (Runs sha k s.size (as_processes s)) same (worked w e), refl)
-      settle true (Some Old) w e f = (once s (failed_to first) (Coordinator_does [] (is_down first) (Fails s.ledger [] (c ∷ []) memory only)), refl)
+      settle true (Some Old) w e f = (once s (failed_to first) (Coordinator_does [] (killed_after first) (Fails s.ledger [] (c ∷ []) memory only)), refl)
       settle true (Some New) w e f =
           let same : failed_to (taken (Ok w) first) ≡ as_processes (settled true (Some New) w s).farm = rw f refl in
-          let failed : Runs sha k s.size (as_processes s) (failed_to (taken (decided k s.ledger c) first)) = once s (failed_to (taken (decided k s.ledger c) first)) (Coordinator_does [] (is_down (taken (decided k s.ledger c) first)) (Fails s.ledger (c ∷ []) [] memory only)) in
+          let failed : Runs sha k s.size (as_processes s) (failed_to (taken (decided k s.ledger c) first)) = once s (failed_to (taken (decided k s.ledger c) first)) (Coordinator_does [] (killed_after (taken (decided k s.ledger c) first)) (Fails s.ledger (c ∷ []) [] memory only)) in
           (subst (Runs sha k s.size (as_processes s)) same (subst (λ r. Runs sha k s.size (as_processes s) (failed_to (taken r first))) e failed), refl)
 
       by : (r : Result Work CoordRefusal) → decided k s.ledger c ≡ r → Goes s (coordinated false r s).farm

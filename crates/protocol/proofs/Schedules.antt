@@ -5,7 +5,7 @@ use Rattle.farm_base.specs.Kinds.{is_tenure}
 use Rattle.protocol.specs.Lists.{In, put, nth}
 use Rattle.protocol.specs.Names.{Shared, FolderName, only_slot, leased_wants, tenure_wants, Slot, NodeId, Life, Ask, Ticket, Digest, Want}
 use Rattle.farm_base.specs.declared.message.Why.{Why}
-use Rattle.protocol.specs.Machine.{Parked, IsPartOf, Grant, Granted, ticket_of, Message, Said, Told, Fetches, Blob, ToCoord, FromCoord, acquire, commit, release, Machine, WasHeard, Has, Live, line, MayEnd, Ending, Committed, Released, Withdrawn, Died, Step, Steps, No_step, Grants, Ends, Prunes, Sees, Retires, Parks, Unparks, Raises, Says, Says_granted, Says_committed, Says_fenced, Says_denied, Says_recall}
+use Rattle.protocol.specs.Machine.{Parked, HasPart, Grant, Granted, ticket_of, Message, Said, Told, Fetches, Blob, ToCoord, FromCoord, acquire, commit, release, Machine, WasHeard, Has, Live, line, MayEnd, Ending, Committed, Released, Withdrawn, Died, Step, Steps, No_step, Grants, Ends, Prunes, Sees, Retires, Parks, Unparks, Raises, Says, Says_granted, Says_committed, Says_fenced, Says_denied, Says_recall}
 use Rattle.farm_base.specs.declared.message.Message.TheVariants as to
 use Rattle.farm_base.specs.declared.message.ToNode.TheVariants as to_node
 use Rattle.protocol.specs.Ledger.{Limits, Ledger, Work, begin_work, grant_of, handled, withdrawn, retired, pruned, nudged, lease_under, has_ticket, has_slot, holds_wanted, is_awaited, is_parked, another, is_its, Lease, is_saved, Saved, saves, reads}
@@ -26,7 +26,7 @@ use Rattle.events.specs.declared.answer.EventNote.TheVariants as event_note
 use Rattle.events.specs.declared.answer.EventRefusal.{EventRefusal}
 use Rattle.events.specs.declared.answer.EventRefusal.TheVariants as refusal
 use Rattle.protocol.specs.Safe.{InUse}
-use Rattle.protocol.specs.Meaning.{heard_lives, Ended, MessageEnds, WithdrawEnds, RetireEnds, RestartEnds, NoEnds, EndsAt, recorded, Finds, message_adds, message_lives, lives_at, IsAnswered, DropsAt, adds, BeginsAt, StopsAt, Used, CoordMeans, Meant, Asks, MessageMeans, CoordDid, Again, Carried, addressee, node_at, heard_at, NodeMeans, Hears, Did, takes_slot, IsAwaited, Recalls, TicketsRise, IsDenied, HasLowest, PassesOverNone, KeepsOrder, IsDue, IsCommit, Replies, first_number, Survives, Unchanged, Means}
+use Rattle.protocol.specs.Meaning.{heard_lives, Ended, MessageEnds, WithdrawEnds, RetireEnds, RestartEnds, NoEnds, EndsAt, recorded, Finds, message_adds, message_lives, lives_at, IsAnswered, DropsAt, adds, BeginsAt, StopsAt, Used, CoordMeans, Meant, Asks, MessageMeans, CoordDid, Again, Carried, addressee, node_at, heard_at, NodeMeans, Hears, Did, takes_slot, IsAwaited, Recalls, FewTickets, IsDenied, HasLowest, PassesOverNone, KeepsOrder, IsDue, IsCommit, Replies, first_number, Survives, Unchanged, Means}
 use Rattle.protocol.specs.Reasons.{CallBecause, message_decision, decision_at, IsThere, Reaches, CoordBecause, NodeBecause, Because, Fair}
 use Rattle.farm_base.specs.declared.message.Request.{Request}
 use Rattle.farm_base.specs.declared.message.Request.TheVariants as request
@@ -153,7 +153,7 @@ sent_in sha u inv = record {
 -- a node's event finds the world's machine, ends nothing, adds nothing to a line, and is not the coordinator's
 pub record Plain (sha : List ℕ → Digest) (u : World) (s : Farm) (e : Event) (n : NodeId) (o : Option Message) : Type 0 where
   pub finds : Finds u e ≡ u.machine
-  pub rises : (a n : ℕ) → TicketsRise e a n a
+  pub rises : (a n : ℕ) → FewTickets e a n a
   pub ends : (said : NodeNote) (g : Grant) (y : Ending) → EndsAt u e (event_note.Node said) g y → ⊥
   pub adds : (said : NodeNote) (s : Slot) → adds (sha []) u.pool e (event_note.Node said) s ≡ []
   pub lives : (said : NodeNote) (f : ℕ → ℕ) (n : ℕ) → lives_at u.pool e (event_note.Node said) f n ≡ f n
@@ -311,7 +311,7 @@ module _ (sha : List ℕ → Digest) (k : Limits) (farm : IsFarm sha k) where
       pub fits : FitsSends w
       pub orders : Orders w
       pub noted : (c : CoordNote) → w.note ≡ c → (told ≡ event_note.Coord c) ⊎ (c ≡ coord_note.Nothing)
-      pub rises : (a b n : ℕ) → b ≤ a + change.tickets + n → TicketsRise e a n b
+      pub rises : (a b n : ℕ) → b ≤ a + change.tickets + n → FewTickets e a n b
 
     -- the Grant of a lease that is there is live
     live_grant : (w : Work) (m : Machine) → Sound k.empty m → Agrees k.empty u.pool m w.ledger → (h : Lease) → In h w.ledger.live → Live m (grant_of k.empty w.ledger.line h)
@@ -661,9 +661,9 @@ module _ (sha : List ℕ → Digest) (k : Limits) (farm : IsFarm sha k) where
         above = λ g i. inl (subst (λ (z : Machine). In (Granted g) z.made) (sym p.finds) (subst (λ (z : Machine). In (Granted g) z.made) a.reached.machine i));
         lowest = λ g i. inl (subst (λ (z : Machine). In (Granted g) z.made) (sym p.finds) (subst (λ (z : Machine). In (Granted g) z.made) a.reached.machine i));
         oldest = λ g i. inl (subst (λ (z : Machine). In (Granted g) z.made) (sym p.finds) (subst (λ (z : Machine). In (Granted g) z.made) a.reached.machine i));
-        queue = inl (subst (IsPartOf (Finds u e).parked) (ap (λ (z : Machine). z.parked) p.finds ∙ ap (λ (z : Machine). z.parked) (sym a.reached.machine)) (part_refl (Finds u e).parked));
+        queue = inl (subst (HasPart (Finds u e).parked) (ap (λ (z : Machine). z.parked) p.finds ∙ ap (λ (z : Machine). z.parked) (sym a.reached.machine)) (part_refl (Finds u e).parked));
         replies = λ y i. absurd (a.reached.tells y i);
-        tickets = subst (λ z. TicketsRise e (Finds u e).last (length w.sends) z) (ap (λ (z : Machine). z.last) p.finds ∙ ap (λ (z : Machine). z.last) (sym a.reached.machine)) (p.rises (Finds u e).last (length w.sends));
+        tickets = subst (λ z. FewTickets e (Finds u e).last (length w.sends) z) (ap (λ (z : Machine). z.last) p.finds ∙ ap (λ (z : Machine). z.last) (sym a.reached.machine)) (p.rises (Finds u e).last (length w.sends));
         recalled = λ j l t i. absurd (a.reached.tells (message.Recall j l t) i);
         denied = λ j l b y i. absurd (a.reached.tells (message.Denied j l b y) i);
         carried = subst (λ z. Carried (sha []) u e (event_note.Node w.note) w.sends z) (sym a.reached.machine) (idle n heard p w.note w.sends a.reached.tells);
@@ -1101,7 +1101,7 @@ module _ (sha : List ℕ → Digest) (k : Limits) (farm : IsFarm sha k) where
               oldest = λ g i. subst (λ (z : Machine). In (Granted g) z.made ⊎ PassesOverNone k (DropsAt u.pool RestartCoordinator) z after.world.machine g) (sym (ap (recorded u.machine) h)) (after.means.oldest g i);
               queue = subst (λ (z : Machine). KeepsOrder u RestartCoordinator event_note.Restarted z.parked after.world.machine.parked) (sym (ap (recorded u.machine) h)) after.means.queue;
               replies = λ y i. replies_found u m h event_note.Restarted y (after.means.replies y i);
-              tickets = subst (λ (z : Machine). TicketsRise RestartCoordinator z.last (length after.means.sent) after.world.machine.last) (sym (ap (recorded u.machine) h)) after.means.tickets;
+              tickets = subst (λ (z : Machine). FewTickets RestartCoordinator z.last (length after.means.sent) after.world.machine.last) (sym (ap (recorded u.machine) h)) after.means.tickets;
               recalled = after.means.recalled;
               denied = after.means.denied;
               carried = (let c = after.means.carried in let at = sym (ap (recorded u.machine) h) in record {

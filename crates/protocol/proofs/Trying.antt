@@ -5,7 +5,7 @@ use Rattle.std.proofs.lemmas.Bool.Decides.{nat_tests}
 use Rattle.std.specs.Prelude.{nat_lt}
 use Rattle.protocol.specs.Lists.{In}
 use Rattle.protocol.specs.Names.{NodeId, Life, Ask}
-use Rattle.protocol.specs.Machine.{Parked, IsPartOf, Ends_part, Keeps, Leaves}
+use Rattle.protocol.specs.Machine.{Parked, HasPart, Ends_part, Keeps, Leaves}
 use Rattle.protocol.specs.Ledger.{Limits, Ledger, Work, raised, Lease, Decision, Give, Deny, Wait, decision, lease_for, gives, carried_out, waits, tried, stays, try_all, waiting, is_parked}
 use Rattle.protocol.specs.Follows.{NoLease, Waits}
 use Rattle.protocol.proofs.Base.{true_false, in_append, in_one}
@@ -120,7 +120,7 @@ module _ (k : Limits) where
     | inr t ↦ inr (waiting_in ps (tried k r w) p (rw t at i))
   ]
 
-  pub waiting_part : (ps : List Parked) (w : Work) → IsPartOf ps (waiting k ps w)
+  pub waiting_part : (ps : List Parked) (w : Work) → HasPart ps (waiting k ps w)
   waiting_part [] w = Ends_part
   waiting_part (r ∷ ps) w = elim (cases_Bool (stays k r w)) [
     | inl t ↦ rw t (Keeps r ps (waiting k ps (tried k r w)) (waiting_part ps (tried k r w)))

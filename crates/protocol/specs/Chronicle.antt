@@ -198,22 +198,23 @@ module _ (sha : List ℕ → Digest) (limits : Limits) where
 
   -- of a farm that a schedule led to, and one more event
   pub record Headline (farm : Farm) : Type 0 where
+    -- after an accepted withdrawal nothing commits under the ticket, and it is on no line
     pub withdrawn : (ticket : Ticket) (outcome : Outcome)
         → answer farm (Withdraw ticket) ≡ Ok outcome
         → StaysOut (after farm (Withdraw ticket)) ticket
-    -- of each lease of a node that is retired
+    -- so for each lease of a node that is retired
     pub retired : (node : NodeId) (outcome : Outcome)
         → answer farm (Retire node) ≡ Ok outcome
         → (lease : Lease) → In lease farm.ledger.live → lease.node ≡ node
         → StaysOut (after farm (Retire node)) lease.ticket
-    -- of each lease of an older life once a newer is heard of
+    -- for each lease of an older life once a newer one is heard of
     pub older : (number : ℕ) (saying : ToCoord) (outcome : Outcome) → nth farm.pool number ≡ Some (Said saying)
         → answer farm (Deliver number) ≡ Ok outcome
         → farm.ledger.gone saying.node.0 ≡ false
         → farm.ledger.lives saying.node.0 < saying.life.0
         → (lease : Lease) → In lease farm.ledger.live → lease.node ≡ saying.node → lease.life.0 < saying.life.0
         → StaysOut (after farm (Deliver number)) lease.ticket
-    -- from an accepted begin on, until an event that ends it, none begins that shares such a slot with it
+    -- from an accepted begin on, until an event that ends it, none begins that shares a PRIVATE or SHARED slot with it
     pub alone : (node node' : NodeId) (ticket ticket' : Ticket) (late : List Event) (outcome outcome' : Outcome)
         → answer farm (Begin node ticket) ≡ Ok outcome
         → GoesOn node ticket late (after farm (Begin node ticket))
@@ -231,7 +232,7 @@ module _ (sha : List ℕ → Digest) (limits : Limits) where
     pub one_ask : (node : NodeId) (life : Life) (ask : Ask) (wants wants' : List Want) (tenure tenure' : Bool)
         → In (acquire node life ask wants tenure) farm.pool → In (acquire node life ask wants' tenure') farm.pool
         → (wants ≡ wants') × (tenure ≡ tenure')
-    -- from an accepted begin on, until an event that ends it, none begins that may not be at once with it
+    -- from an accepted begin on, until an event that ends it, each that begins may be at once with it
     pub apart : (node node' : NodeId) (ticket ticket' : Ticket) (late : List Event) (outcome outcome' : Outcome)
         → answer farm (Begin node ticket) ≡ Ok outcome
         → GoesOn node ticket late (after farm (Begin node ticket))
@@ -246,7 +247,7 @@ module _ (sha : List ℕ → Digest) (limits : Limits) where
     pub rising : (slot : Slot) → Rising (farm.ledger.line slot)
     pub grows : (late : List Event) (slot : Slot)
         → IsFrontOf (farm.ledger.line slot) ((after_all farm late).ledger.line slot)
-    -- by exactly what the answer names
+    -- an accepted event makes a line longer by exactly what its answer names
     pub answered : farm.down ≡ false → (event : Event) (outcome : Outcome)
         → answer farm event ≡ Ok outcome
         → (slot : Slot)
@@ -261,13 +262,13 @@ module _ (sha : List ℕ → Digest) (limits : Limits) where
     pub spent : (node : NodeId)
         → answer farm (RestartNode node) ≡ Err (refusal.Node node_refusal.LivesSpent)
         → ((after farm (RestartNode node)).nodes node.0).spent ≡ true
-    -- and none is before its greatest life
+    -- a node that is down for good is in its greatest life
     pub greatest : (node : NodeId) → (farm.nodes node.0).spent ≡ true → limits.greatest ≤ (farm.nodes node.0).life.0
     -- a failure is armed by its event alone, and stays armed until a save fails so
     pub arms : (kept : Kept) → after farm (FailSave kept) ≡ record farm { armed = Some kept }
     pub armed : (event : Event) → ((kept : Kept) → event ≢ FailSave kept)
         → LeavesArmed limits farm event (step sha limits farm event)
-    -- of each lease that the record doesn't have, where the coordinator restarts
+    -- and for each lease that the record doesn't have, once the coordinator restarts
     pub restarted : farm.down ≡ false → (lease : Lease) → In lease farm.ledger.live → is_saved lease ≡ false
         → StaysOut (after farm RestartCoordinator) lease.ticket
 

@@ -1,5 +1,4 @@
--- The ledger agrees with a machine that forgets nothing, and a farm's state with a world
--- (docs/PROOFS.md, "From the replay to the world").
+-- The ledger agrees with a machine that forgets nothing, and a farm's state with a world.
 use Rattle.std.specs.Prelude.{◌≡◌, ◌≢◌, ℕ, ◌+◌, ◌<◌, ◌≤◌, nat_lt, if◌then◌else◌, true, false, List, [], ◌∷◌, ◌++◌, ◌⊎◌, map, Option, Some, None, ⊤, Result, Ok, Err}
 use Rattle.farm_base.specs.Kinds.{has_shared, is_tenure}
 use Rattle.protocol.specs.Lists.{In}

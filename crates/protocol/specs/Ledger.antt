@@ -400,7 +400,7 @@ withdraws lease work = record work {
 abbrev pub is_at : NodeId → Lease → Bool
 is_at node lease = lease.node.0 == node.0
 
--- all leases of the node are withdrawn, and its parked asks go
+-- the PRIVATE slots of these leases are retired too
 abbrev pub retire_all : List Lease → (Slot → Bool) → Slot → Bool
 retire_all leases retired slot = (is_private slot.folder.mode && some_lease leases slot) || retired slot
 
@@ -569,10 +569,6 @@ module _ (limits : Limits) where
 
 -- the record
 
--- what the record has of a ledger: the leases that are saved, and of the tickets the ceiling
-abbrev pub reread : Ledger → Ledger
-reread ledger = record ledger { live = filter is_saved ledger.live; last = ledger.ceiling; parked = [] }
-
 -- what the record holds: no last ticket, no parked ask, and of the leases those that are saved
 pub record Saved : Type 0 where
   pub live : List Lease
@@ -608,3 +604,7 @@ reads saved = record {
   lives = saved.lives;
   parked = [];
 }
+
+-- the ledger that a restart makes of this one's record
+abbrev pub reread : Ledger → Ledger
+reread ledger = reads (saves ledger)

@@ -204,11 +204,11 @@ abbrev pub cleared : NodeId → Option NodeId → Option NodeId
 cleared node None = None
 cleared node (Some home) = if home.0 == node.0 then None else Some home
 
--- the second list is the first without some of its elements
-pub data IsPartOf {A : Type 0} : List A → List A → Type 0 where
-  Ends_part : IsPartOf [] []
-  Keeps : (x : A) (xs ys : List A) → IsPartOf xs ys → IsPartOf (x ∷ xs) (x ∷ ys)
-  Leaves : (x : A) (xs ys : List A) → IsPartOf xs ys → IsPartOf (x ∷ xs) ys
+-- the first list has the second, with some elements more
+pub data HasPart {A : Type 0} : List A → List A → Type 0 where
+  Ends_part : HasPart [] []
+  Keeps : (x : A) (xs ys : List A) → HasPart xs ys → HasPart (x ∷ xs) (x ∷ ys)
+  Leaves : (x : A) (xs ys : List A) → HasPart xs ys → HasPart (x ∷ xs) ys
 
 -- one step of the machine, where these messages were ever sent
 pub data Step (empty : Digest) (pool : List Message) (machine : Machine) : Machine → Type 0 where
@@ -259,7 +259,7 @@ pub data Step (empty : Digest) (pool : List Message) (machine : Machine) : Machi
       → Step empty pool machine (record machine { parked = machine.parked ++ parked ∷ [] })
   -- some parked asks are no longer parked
   Unparks : (queue : List Parked)
-      → IsPartOf machine.parked queue
+      → HasPart machine.parked queue
       → Step empty pool machine (record machine { parked = queue })
   -- at a restart the last ticket rises to the saved ceiling
   Raises : (ceiling : ℕ)
@@ -298,7 +298,7 @@ pub data Says (empty : Digest) (pool : List Message) (machine : Machine) : FromC
       → (slots_of news ≡ written grant.slots)
       → (news ≢ [])
       → ⊥)
-      -- not one or more slots with the ticket on the line of each
+      -- unless the news name slots, and the ticket is on the line of each
       → ((news ≢ [])
       → ((item : News) → In item news
       → (version : LineVersion) × In version (line empty machine item.slot) × (version.ticket ≡ ticket))

@@ -3,7 +3,7 @@ use Rattle.std.specs.Prelude.{◌≡◌, ◌≢◌, ℕ, ◌+◌, ◌-◌, ◌<�
 use Rattle.farm_base.specs.Kinds.{is_tenure}
 use Rattle.protocol.specs.Lists.{In, put, nth, set_nth}
 use Rattle.protocol.specs.Names.{Slot, slot_eq, is_private, Mode, Shared, Private, Locked, FolderName, NodeId, Life, Ask, Ticket, Digest, Want, tenure_wants}
-use Rattle.protocol.specs.Machine.{Grant, GrantedSlot, Granted, ticket_of, Message, Told, News, Confirmed, LineVersion, Ending, Committed, Released, Withdrawn, Died, Said, Fetch, Fetches, Blob, FromCoord, ToCoord, Parked, IsPartOf, Machine, Has, Live, Leased, Retired, Free, line, version_of, digest_for, slots_of, written, hello, acquire, commit, release}
+use Rattle.protocol.specs.Machine.{Grant, GrantedSlot, Granted, ticket_of, Message, Told, News, Confirmed, LineVersion, Ending, Committed, Released, Withdrawn, Died, Said, Fetch, Fetches, Blob, FromCoord, ToCoord, Parked, HasPart, Machine, Has, Live, Leased, Retired, Free, line, version_of, digest_for, slots_of, written, hello, acquire, commit, release}
 use Rattle.farm_base.specs.declared.message.Message.TheVariants as to
 use Rattle.farm_base.specs.declared.message.ToNode.TheVariants as to_node
 use Rattle.farm_base.specs.declared.message.Request.{Request}
@@ -141,7 +141,7 @@ DropsAt pool (Retire node) = λ parked. parked.node ≡ node
 DropsAt pool RestartCoordinator = λ parked. ⊤
 DropsAt pool event = λ parked. ⊥
 
--- ---- who is in use
+-- ---- which executions run
 
 -- an accepted event that begins an execution of the node
 abbrev pub BeginsAt : Event → NodeId → Grant → Type 0
@@ -168,7 +168,7 @@ pub record Used (world : World) (event : Event) (later : World) : Type 0 where
 abbrev pub IsLive : Machine → Ticket → Type 0
 IsLive machine ticket = (grant : Grant) × Live machine grant × (grant.ticket ≡ ticket)
 
--- of the machine before
+-- what an answer says of the machine before
 abbrev pub CoordMeans : Machine → CoordNote → Type 0
 CoordMeans machine (coord.Committed ticket) = IsLive machine ticket
 CoordMeans machine (coord.Released ticket) = IsLive machine ticket
@@ -176,7 +176,7 @@ CoordMeans machine (coord.Withdrawn ticket) = IsLive machine ticket
 CoordMeans machine (coord.Retired node) = machine.gone node.0 ≡ false
 CoordMeans machine answer = ⊤
 
--- work that was answered so: these ended, as the answer says
+-- exactly these grants ended, and the answer is true of the machine before
 abbrev pub Meant : Machine → (Grant → Ending → Type 0) → CoordNote → (ℕ → Option Ending) → Type 0
 Meant machine ends answer ending = Ended machine ends ending × CoordMeans machine answer
 
@@ -543,7 +543,7 @@ abbrev pub Hears : Option Message → EventNote → Type 0
 Hears (Some (to.ToNode message)) said = (answer : NodeNote) × (said ≡ note.Node answer)
 Hears other said = ⊤
 
--- how the event is answered, and who is in use then
+-- how the event is answered, and which executions run then
 abbrev pub Did : World → Event → EventNote → World → Type 0
 Did world (replay.Ask node wants) said later = (ask : Ask) × (said ≡ note.Node (node_note.Asked ask))
 Did world (Tenure node folder) said later = (ask : Ask) × (said ≡ note.Node (node_note.Asked ask))
@@ -674,8 +674,8 @@ PassesOverNone limits drops machine after grant =
 -- parked asks stand in the order in which they came: those that stay keep it, and one that is new is the last; it is
 -- the one that was delivered, and is answered Parked
 abbrev pub KeepsOrder : World → Event → EventNote → List Parked → List Parked → Type 0
-KeepsOrder world event said old new = IsPartOf old new
-    ⊎ ((stay : List Parked) × (parked : Parked) × IsPartOf old stay × (In parked old → ⊥) × (new ≡ stay ++ parked ∷ [])
+KeepsOrder world event said old new = HasPart old new
+    ⊎ ((stay : List Parked) × (parked : Parked) × HasPart old stay × (In parked old → ⊥) × (new ≡ stay ++ parked ∷ [])
     × (heard_at world event ≡ Some (acquire parked.node parked.life parked.ask parked.wants parked.tenure))
     × (said ≡ note.Coord coord.Parked))
 
@@ -705,12 +705,11 @@ Replies world event said (told.Fenced node life ticket) =
 Replies world event said (told.Denied node life ask why) = IsDue world event node life ask
 Replies world event said (told.Recall node life ticket) = ⊤
 
--- tickets are given one by one, for what is sent and for a prune: of the last ticket before, how many messages were
--- sent, and the last ticket then. A restart leaves out those that were saved and not given: at most 64
-abbrev pub TicketsRise : Event → ℕ → ℕ → ℕ → Type 0
-TicketsRise (Prune slot) last sent after = after ≤ last + 1 + sent
-TicketsRise RestartCoordinator last sent after = after ≤ last + 64 + sent
-TicketsRise event last sent after = after ≤ last + sent
+-- the last ticket rises by at most one for each message sent, by one more at a prune, by at most 64 more at a restart
+abbrev pub FewTickets : Event → ℕ → ℕ → ℕ → Type 0
+FewTickets (Prune slot) last sent after = after ≤ last + 1 + sent
+FewTickets RestartCoordinator last sent after = after ≤ last + 64 + sent
+FewTickets event last sent after = after ≤ last + sent
 
 -- the number of the first message that is sent after these, 0 where none is
 abbrev pub first_number : List Message → List Message → ℕ
@@ -751,7 +750,7 @@ module _ (sha : List ℕ → Digest) (limits : Limits) where
     -- a grant that is new has a ticket above the last, and at most the last now
     pub above : (grant : Grant) → In (Granted grant) later.machine.made → In (Granted grant) (Finds world event).made
         ⊎ (((Finds world event).last < grant.ticket.0) × (grant.ticket.0 ≤ later.machine.last))
-    pub tickets : TicketsRise event (Finds world event).last (length sent) later.machine.last
+    pub tickets : FewTickets event (Finds world event).last (length sent) later.machine.last
     pub recalled : (node : NodeId) (life : Life) (ticket : Ticket) → In (Told (told.Recall node life ticket)) sent
         → IsRecalled later.machine node life ticket
     pub denied : (node : NodeId) (life : Life) (ask : Ask) (because : Why)

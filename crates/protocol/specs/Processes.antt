@@ -7,7 +7,7 @@ use Rattle.std.specs.Prelude.{◌≡◌, ◌≢◌, ℕ, ◌+◌, ◌<◌, ◌�
 use Rattle.farm_base.specs.Kinds.{is_tenure}
 use Rattle.protocol.specs.Lists.{In, IsFrontOf, put, nth}
 use Rattle.protocol.specs.Names.{Slot, is_alone, wants_shared, only_slot, NodeId, Life, Ask, Ticket, Digest, Want, FolderName}
-use Rattle.protocol.specs.Machine.{Grant, Confirmed, LineVersion, Message, ToCoord, ToNode, Said, Told, Has, hello, IsPartOf}
+use Rattle.protocol.specs.Machine.{Grant, Confirmed, LineVersion, Message, ToCoord, ToNode, Said, Told, Has, hello, HasPart}
 use Rattle.farm_base.specs.declared.message.Message.TheVariants as to
 use Rattle.farm_base.specs.declared.message.ToNode.TheVariants as to_node
 use Rattle.farm_base.specs.declared.message.FromCoord.TheVariants as told
@@ -73,12 +73,13 @@ taken (Ok work) gathered = record {
   sends = gathered.sends ++ map Told work.sends;
 }
 
--- the coordinator after the calls: it goes on, or all that is left of it is its disk
-abbrev pub is_up : Batch → Coordinator
-is_up gathered = record { memory = Some gathered.ledger; disk = gathered.to_save }
+-- the coordinator that goes on after the calls
+abbrev pub running_after : Batch → Coordinator
+running_after gathered = record { memory = Some gathered.ledger; disk = gathered.to_save }
 
-abbrev pub is_down : Batch → Coordinator
-is_down gathered = record { memory = None; disk = gathered.to_save }
+-- all that is left of it where it was killed after them: its disk
+abbrev pub killed_after : Batch → Coordinator
+killed_after gathered = record { memory = None; disk = gathered.to_save }
 
 module _ (limits : Limits) where
   abbrev pub decided : Ledger → Call → Result Work CoordRefusal
@@ -100,15 +101,15 @@ module _ (limits : Limits) where
     -- writes
     Works : (ledger : Ledger) (calls : List Call) (lines : List Message) → coordinator.memory ≡ Some ledger
         → AllMayCome size written calls
-        → IsPartOf (batch calls (begin_batch ledger coordinator.disk)).sends lines
+        → HasPart (batch calls (begin_batch ledger coordinator.disk)).sends lines
         → CoordinatorDoes size written coordinator lines
-        (is_up (batch calls (begin_batch ledger coordinator.disk)))
+        (running_after (batch calls (begin_batch ledger coordinator.disk)))
     -- it is killed before the save is done, or the save fails. The disk has the record after the first of the calls,
     -- which may be none or all of them, and nothing is written
     Fails : (ledger : Ledger) (early late : List Call) → coordinator.memory ≡ Some ledger
         → AllMayCome size written (early ++ late)
         → CoordinatorDoes size written coordinator []
-        (is_down (batch early (begin_batch ledger coordinator.disk)))
+        (killed_after (batch early (begin_batch ledger coordinator.disk)))
     Is_killed : CoordinatorDoes size written coordinator [] (record coordinator { memory = None })
     -- it starts, from its disk and nothing else
     Starts : CoordinatorDoes size written coordinator []
@@ -159,13 +160,13 @@ module _ (sha : List ℕ → Digest) (limits : Limits) where
     -- how many nodes it takes the farm to have, when it asks the others for contents
     Acts : (count : ℕ) (call : NodeCall) (work : NodeWork) (lines : List Message) → MayReach written node call
         → node_decided (record { node = node; nodes = count }) state call ≡ Ok work
-        → IsPartOf work.sends lines
+        → HasPart work.sends lines
         → NodeDoes written node state lines work.node
     -- it starts, after a kill or for the first time, in a greater life, which is on its disk before a line of that life
     -- is written. Until then its asks are as they were, since an execution may outlast its process
     Begins_life : (life : Life) (lines : List Message) → state.spent ≡ false → state.life.0 < life.0
         → life.0 ≤ limits.greatest
-        → IsPartOf (hello node life ∷ []) lines
+        → HasPart (hello node life ∷ []) lines
         → NodeDoes written node state lines (has_life state life.0)
     -- some contents or known versions are gone: lost with its disk, or not yet there when it was killed
     Loses : (store : Digest → Option (List ℕ)) (known : Slot → ℕ → Option Digest)
@@ -300,8 +301,8 @@ WithdrawnStaysOut = (sha : List ℕ → Digest) (limits : Limits) → IsFarm sha
     let after : Batch =
     batch limits (early ++ Withdraw ticket ∷ late) (begin_batch ledger processes.coordinator.disk) in
     AllMayCome size processes.written (early ++ Withdraw ticket ∷ late)
-    → withdrawn limits ticket (begin_work before.ledger) ≡ Ok work → IsPartOf after.sends lines
-    → Runs sha limits size (record processes { coordinator = is_up after; written = processes.written ++ lines }) later
+    → withdrawn limits ticket (begin_work before.ledger) ≡ Ok work → HasPart after.sends lines
+    → Runs sha limits size (record processes { coordinator = running_after after; written = processes.written ++ lines }) later
     → (slot : Slot) (version : LineVersion) → In version (later.coordinator.disk.line slot) → version.ticket ≡ ticket
     → ⊥
 

@@ -148,7 +148,7 @@ abbrev pub saved_by : Result Ledger RecordRefusal → Saved
 saved_by (Ok q) = saves q
 saved_by (Err e) = saves opening
 
--- what texts hold of a ledger. Those that hold none hold as little as none
+-- what texts hold of a ledger; where they hold none, that of an empty farm
 unfoldable pub saved_in : Texts → Saved
 saved_in t = saved_by (ledger_in t)
 

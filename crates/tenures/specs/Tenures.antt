@@ -65,11 +65,11 @@ all_in_use parts node wants = list_all (λ w. not (is_shared w.folder.mode) || i
 abbrev pub staged : NodeId → FolderName → Stage → Tenure → Tenure
 staged node folder stage t = cond (is_at node folder t) (record t { stage = stage }) t
 
--- one execution more uses the tenure's folder, if it is among these wants on the node
+-- an execution more uses the tenure's folder, if it is among these wants on the node
 abbrev pub taken_up : NodeId → List Want → Tenure → Tenure
 taken_up node wants t = cond (is_wanted node wants t) (record t { users = min (t.users + 1) (2 ^ 64 - 1) }) t
 
--- one execution less does
+-- an execution fewer uses it
 abbrev pub put_down : NodeId → List Want → Tenure → Tenure
 put_down node wants t = cond (is_wanted node wants t) (record t { users = t.users - 1 }) t
 
@@ -80,13 +80,13 @@ is_under ticket t = elim (ticket_of t.stage) [
   | Some own ↦ own.0 == ticket.0
 ]
 
--- a tenure under this ticket is one of those that end
+-- the tenure, under this ticket, is one that `ends` names
 abbrev pub ends_under : TenureParts → Ends → Tenure → Option Ticket → Bool
 ends_under parts ends t None = false
 ends_under parts Recalled t (Some ticket) = is_recalled parts ticket
 ends_under parts (OfNode node) t (Some ticket) = t.node.0 == node.0
 ends_under parts All t (Some ticket) = true
 
--- the tenure is to end: it is in use, no execution uses its folder, and it is one of those that end
+-- the tenure is to end: it is in use, no execution uses its folder, and `ends` names it
 abbrev pub is_to_end : TenureParts → Ends → Tenure → Bool
 is_to_end parts ends t = ends_under parts ends t (ticket_of t.stage) && (t.users == 0)

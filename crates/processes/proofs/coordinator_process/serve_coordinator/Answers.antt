@@ -1,7 +1,7 @@
 use Rattle.std.proofs.Common.{◌∙◌, refl, subst}
 use Rattle.std.proofs.lemmas.Option.{IfSome_then}
 use Rattle.std.proofs.lemmas.Result.{on_ok_weaker}
-use Rattle.coordinatorfilter.specs.Written.{Filters, Settles}
+use Rattle.coordinatorfilter.specs.Written.{Filters, MakesLast}
 use Rattle.coordinatorfilter.specs.Rules.{filter_steps}
 use Rattle.processes.proofs.FilterLemmas.{serves_seen}
 use Rattle.processes.proofs.coordinator_process.serve_coordinator.Goals as goal
@@ -9,7 +9,7 @@ use Rattle.processes.proofs.coordinator_process.serve_coordinator.Goals as goal
 pub returns-clause-served : goal.returns-clause-served
 returns-clause-served g c = on_ok_weaker c.serve.result (λ h. IfSome_then (g.R.Read.remaining c.args.reader) h (λ text served.
     serves_seen _ (filter_steps g.K.Keeper.saving g.K.Keeper.loading g.K.Keeper.kept c.args.filter.now.key) _
-    (Settles g.K.Keeper.syncing g.K.Keeper.loading g.K.Keeper.kept g.K.Keeper.lasting) (λ f. f.coordinator) (λ f. f.key)
+    (MakesLast g.K.Keeper.syncing g.K.Keeper.loading g.K.Keeper.kept g.K.Keeper.lasting) (λ f. f.coordinator) (λ f. f.key)
     c.args.filter.now.key
     (λ old given answer new same step. (
       subst (λ k. Filters g.K.Keeper.saving g.K.Keeper.loading g.K.Keeper.kept k given answer old.coordinator new.coordinator) same step.0,
