@@ -1,7 +1,8 @@
 //! The processes of a farm, in a program of their own: it is all that a farm needs, and stands on half of the crates.
 #![tactic(auto)]
 
-use processcommands::{print_no_words, program_words, run};
+use processcommands::{print_no_words, program_words};
+use processes::run;
 use std::process::ExitCode;
 
 fn main(rt: HostRuntime) -> ExitCode {

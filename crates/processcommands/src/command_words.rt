@@ -1,10 +1,10 @@
 //! The words of the commands.
 
+use super::places::{CoordinatorPlace, NodePlace};
 use clap::builder::ValueParser;
 use clap::error::ErrorKind;
 use clap::{Arg, ArgMatches, Error};
 use names::{NODES, NodeId};
-use processes::{CoordinatorPlace, NodePlace};
 use std::alloc::{AllocError, Global};
 
 /// A process of a farm, which answers the lines of the standard input.
@@ -118,7 +118,7 @@ pub fn named<'a>(name: &str, found: &ArgMatches<'a>) -> Option<Process<'a>> {
     }
 }
 
-/// What words that are sound one by one say wrong together, if they do.
+/// Why words, each sound, don't go together, if they don't.
 pub fn disagreement(process: Process<'_>) -> Option<&'static str> {
     match process {
         Process::Node(place) if place.nodes < place.node.0 => Some("--node is above --nodes"),
@@ -180,7 +180,7 @@ fn parsed<'a>(program: &mut clap::Command<'a>, words: &'a [String]) -> Result<Pr
 }
 
 /// The process that the words ask for. An error is a usage fault, the help that was asked for, or out of memory.
-pub(crate) fn process_of<'a>(alloc: Global, words: &'a [String]) -> Result<Process<'a>, Error> {
+pub fn process_of<'a>(alloc: Global, words: &'a [String]) -> Result<Process<'a>, Error> {
     let mut program = farmd(alloc)?;
     parsed(&mut program, words)
 }

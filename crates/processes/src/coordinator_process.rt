@@ -26,6 +26,7 @@ use coordinatorfilter::laws::{
     a_batch_is_a_run, a_batch_over_files_is_a_run, a_kill_is_a_run, a_power_failure_is_a_run,
     a_start_is_a_run, crashes_over_files_are_runs, ends_and_starts_over_files_are_runs,
 };
+use processcommands::CoordinatorPlace;
 use saverecord::Keeper;
 use services::serve;
 use std::alloc::Global;
@@ -38,15 +39,6 @@ const TOGETHER: usize = 65536;
 
 /// What a coordinator says before the first line.
 const GREETING: &str = "= started\n";
-
-/// Where a coordinator has its files.
-#[derive(Clone, Copy)]
-pub struct CoordinatorPlace<'a> {
-    /// The record. Its log and its lock stand beside it, with `.log` and `.lock` behind its name.
-    pub record: &'a str,
-    /// The farm's key.
-    pub key: &'a str,
-}
 
 /// Greets, and answers each line of the reader, up to its end.
 pub fn serve_coordinator<K: Keeper, R: Read + Drop, W: Write>(

@@ -1,6 +1,7 @@
 //! The programs around the filters: their keys, their locks and their files, and what is said where one of these is at fault.
 #![tactic(auto)]
 
+mod calls;
 mod coordinator_process;
 mod fault;
 mod files;
@@ -8,10 +9,11 @@ mod kept;
 pub mod laws;
 mod node_process;
 
-pub use coordinator_process::{CoordinatorPlace, run_coordinator, serve_coordinator};
+pub use calls::{carry_out, run};
+pub use coordinator_process::{run_coordinator, serve_coordinator};
 pub use fault::{Cause, ProcessFault};
 pub use files::{key_of, lock_of};
-pub use node_process::{NodePlace, run_node, serve_node};
+pub use node_process::{run_node, serve_node};
 
 /// How long a line may be, with its end and the `m ` of what came from outside.
 const LONGEST_LINE: usize = farmwire::LINE_LIMIT + 2;

@@ -13,24 +13,13 @@ use names::{Life, NodeId};
 use nodefilter::laws::{a_batch_is_a_run, a_kill_is_a_run, a_start_is_a_run};
 use nodefilter::{Origin, StartFault, Started, start};
 use nodestore::{FileStore, OpenFault, Store, open_store};
+use processcommands::NodePlace;
 use services::serve;
 use std::alloc::Global;
 use std::fs::File;
 use std::io::{self, Read, Write};
 use std::rt::{Clock, Files};
 use std::time::{SystemTime, UNIX_EPOCH};
-
-/// Which node it is, and where it has its files.
-#[derive(Clone, Copy)]
-pub struct NodePlace<'a> {
-    pub node: NodeId,
-    /// The greatest number of a node that the farm will have.
-    pub nodes: u32,
-    /// The folder of its contents and its life. Its lock stands beside it, with `.lock` behind its name.
-    pub store: &'a str,
-    /// The farm's key.
-    pub key: &'a str,
-}
 
 /// Greets, and answers each line of the reader, up to its end.
 pub fn serve_node<S: Store, R: Read + Drop, W: Write>(

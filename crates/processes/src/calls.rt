@@ -1,10 +1,11 @@
-//! What the commands do.
+//! What the commands `coordinator` and `node` do.
 ghost use Rattle.std.specs.Prelude.{◌≢◌};
 ghost use Rattle.processcommands.specs.declared.statuses.TheConstants.{DONE};
 
-use super::command_words::{Process, process_of};
-use super::statuses::{DONE, FAULT, MEMORY, REFUSED, print, print_usage};
-use processes::{Cause, ProcessFault, run_coordinator, run_node};
+use super::coordinator_process::run_coordinator;
+use super::fault::{Cause, ProcessFault};
+use super::node_process::run_node;
+use processcommands::{DONE, FAULT, MEMORY, Process, REFUSED, print, print_usage, process_of};
 use std::alloc::Global;
 use std::fs::File;
 use std::io::Write;

@@ -1,0 +1,23 @@
+//! Where the files of a process are.
+use names::NodeId;
+
+/// Where a coordinator has its files.
+#[derive(Clone, Copy)]
+pub struct CoordinatorPlace<'a> {
+    /// The record. Its log and its lock stand beside it, with `.log` and `.lock` behind its name.
+    pub record: &'a str,
+    /// The farm's key.
+    pub key: &'a str,
+}
+
+/// Which node it is, and where it has its files.
+#[derive(Clone, Copy)]
+pub struct NodePlace<'a> {
+    pub node: NodeId,
+    /// The greatest number of a node that the farm will have.
+    pub nodes: u32,
+    /// The folder of its contents and its life. Its lock stands beside it, with `.lock` behind its name.
+    pub store: &'a str,
+    /// The farm's key.
+    pub key: &'a str,
+}
