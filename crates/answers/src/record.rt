@@ -2,11 +2,13 @@
 ghost use Rattle.std.specs.Prelude.{◌≡◌, ◌≢◌, ◌++◌, [], None, IfOk, IfErr, OnOk};
 ghost use Rattle.std.specs.String.{string_bytes};
 ghost use Rattle.answers.specs.Records.{home_line, life_line, gone_line, word_if, leased_text, holder_text, lease_line, retired_line, versions_line, record_text, IsRecordText, IsNoRecord, HoldsBoth, refusal_in, IsFirstFault, HoldNothing};
-ghost use Rattle.saverecord.specs.Texts.{with_text};
+ghost use Rattle.filekeeper.specs.Framing.{AreTextsOf};
+ghost use Rattle.saverecord.specs.Texts.{Texts, with_text};
 
 use super::failure::Failure;
 use super::printing::{Printed, push_access, push_each};
 use farm_base::{Lease, NodeId, NodeLife, Slot};
+use filekeeper::laws::what_is_held_is_given;
 use filekeeper::{LogFault, texts_in};
 use saverecord::laws::what_is_kept_is_a_record;
 use saverecord::{Log, Record, RecordRefusal};
@@ -178,9 +180,10 @@ fn first_fault(alloc: Global, log: &Log) -> Result<Failure, AllocError>
 /// file as it is.
 pub fn whole_of(alloc: Global, whole: Vec<u8>, tail: &[u8]) -> Result<Vec<u8>, Failure>
     ensures kept { IfOk result (λ bytes. HoldsBoth whole.items tail.now bytes.items) }
-    ensures alone { tail.now ≡ [] → IfOk result (λ bytes. bytes.items ≡ whole.items) }
+    ensures alone { (texts : Texts) → AreTextsOf whole.items tail.now texts → texts.entries ≡ [] → IfOk result (λ bytes. bytes.items ≡ whole.items) }
     ensures refused { IfErr result (HoldNothing whole.items tail.now) }
 {
+    what_is_held_is_given();
     what_is_kept_is_a_record();
     let log = match texts_in(alloc, whole, tail) {
         Ok(log) => log,

@@ -1,6 +1,9 @@
 //! The words of the command line.
 #![tactic(auto)]
 
+ghost use Rattle.std.specs.Prelude.{◌≡◌, ◌≢◌, ◌+◌};
+ghost use Rattle.opsproto.specs.declared.read.TheConstants.{LIMIT};
+
 use answers::{Command, Range};
 use clap::builder::ValueParser;
 use clap::error::ErrorKind;
@@ -31,7 +34,10 @@ pub enum Request<'a> {
 
 impl Request<'_> {
     /// How much of a file is read: of a record all, else one byte past the limit, so that what is longer is refused.
-    pub fn most_bytes(self) -> usize {
+    pub fn most_bytes(self) -> usize
+        ensures record { self.entry ≡ Request.Print Command.Record → result ≡ usize.MAX }
+        ensures others { self.entry ≢ Request.Print Command.Record → result ≡ LIMIT + 1 }
+    {
         match self {
             Request::Print(Command::Record) => usize::MAX,
             _ => LIMIT + 1,
@@ -357,7 +363,7 @@ fn found_words<'a>(
     })
 }
 
-/// What words that are sound one by one say wrong together, if they do.
+/// Why words, each sound, don't go together, if they don't.
 fn disagreement(request: Request<'_>) -> Option<&'static str> {
     match request {
         Request::Print(Command::Draw(range)) if range.last < range.first => Some(

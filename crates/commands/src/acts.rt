@@ -1,5 +1,5 @@
 //! What the program does: reads, answers, prints.
-ghost use Rattle.std.specs.Prelude.{◌≡◌, ◌≢◌, ◌++◌, ℕ, List, IfErr, OnOk, codes};
+ghost use Rattle.std.specs.Prelude.{◌≡◌, ◌≢◌, ◌++◌, [], ℕ, List, IfErr, OnOk, codes, false};
 ghost use Rattle.std.specs.String.{string_bytes};
 ghost use Rattle.std.specs.Io.KnownBytes.{Appends};
 ghost use Rattle.answers.specs.declared.failure.Failure.TheVariants as failures;
@@ -55,7 +55,10 @@ pub struct Told {
 
 impl Told {
     /// Nothing is said yet.
-    pub fn new(alloc: Global, is_wanted: bool) -> Self {
+    pub fn new(alloc: Global, is_wanted: bool) -> Self
+        ensures wanted { result.is_wanted ≡ is_wanted }
+        ensures nothing { (string_bytes result.explanation.lines ≡ []) × (result.explanation.has_refused_event ≡ false) }
+    {
         Told {
             is_wanted,
             explanation: Explanation {
@@ -321,7 +324,7 @@ fn carry_out<
         }
         Request::Serve(process) => {
             drop(inputs);
-            Ok((processcommands::carry_out(rt, process, out, err), false))
+            Ok((processes::carry_out(rt, process, out, err), false))
         }
     }
 }

@@ -1,11 +1,15 @@
 //! What `run` does with its files.
-ghost use Rattle.std.specs.Prelude.{◌≡◌, ◌≢◌, ◌+◌, ◌++◌, ◌∷◌, [], ℕ, List, length, map, None, IfOk, IfErr, IfSome, IfNone, OnOk};
+ghost use Rattle.std.specs.Prelude.{◌≡◌, ◌≢◌, ◌++◌, ◌∷◌, [], ℕ, List, map, None, IfOk, IfErr, IfSome, IfNone, OnOk};
+ghost use Rattle.std.specs.List.{AllZip};
 ghost use Rattle.std.specs.String.{string_bytes};
 ghost use Rattle.std.specs.Io.KnownBytes.{Appends};
 ghost use Rattle.processcommands.specs.declared.statuses.TheConstants.{DONE, FAULT, REFUSED};
 ghost use Rattle.commands.specs.declared.running.InputFault.TheVariants as inputs;
 ghost use Rattle.answers.specs.Answers.{SpellsGraph, IsNoGraph};
-ghost use Rattle.commands.specs.Runs.{job_line, job_lines, commits_line, names_of, IsRunOf, IsRecordOf};
+ghost use Rattle.solverkeys.specs.GraphKeys.{AreKeys};
+ghost use Rattle.solverkeys.specs.Keyed.{KeyedParts};
+ghost use Rattle.names.specs.declared.number.NodeId.{NodeId};
+ghost use Rattle.commands.specs.Runs.{job_line, job_lines, commits_line, names_of, IsJobOf, IsRun, IsRunOf, IsRecordOf};
 
 use super::acts::{print_failure, print_unreadable};
 use answers::{Failure, graph_of};
@@ -27,6 +31,7 @@ use std::thread::Threads;
 /// The graph of a file's definition, with its keys.
 fn keyed_of(alloc: Global, bytes: Vec<u8>) -> Result<Keyed, Failure>
     ensures found { IfOk result (λ keyed. SpellsGraph bytes.items keyed.graph) }
+    ensures keys { IfOk result (λ keyed. AreKeys keyed.graph keyed.keys) }
     ensures refused { IfErr result (IsNoGraph bytes.items) }
 {
     let graph = graph_of(alloc, bytes)?;
@@ -83,7 +88,7 @@ fn push_input(
     bytes: Option<Vec<u8>>,
 ) -> Result<(), InputFault>
     ensures names { OnOk result (map string_bytes inputs.new.names.items ≡ map string_bytes inputs.old.names.items ++ string_bytes name ∷ []) }
-    ensures jobs { OnOk result (length inputs.new.jobs.items ≡ length inputs.old.jobs.items + 1) }
+    ensures jobs { OnOk result ((job : NodeId × KeyedParts) × (inputs.new.jobs.items ≡ inputs.old.jobs.items ++ job ∷ []) × IsJobOf (name, bytes) job) }
 {
     let Some(bytes) = bytes else {
         return Err(InputFault::Unreadable(name));
@@ -105,7 +110,7 @@ fn inputs_of(
     files: Vec<(String, Option<Vec<u8>>)>,
 ) -> Result<Inputs, InputFault>
     ensures names { IfOk result (λ inputs. map string_bytes inputs.names.items ≡ names_of files.items) }
-    ensures count { IfOk result (λ inputs. length inputs.jobs.items ≡ length files.items) }
+    ensures jobs { IfOk result (λ inputs. AllZip IsJobOf files.items inputs.jobs.items) }
 {
     let mut inputs = Inputs {
         names: Vec::new(alloc),
@@ -274,8 +279,9 @@ fn make_report<R: Threads + Wait + Sync>(
     inputs: Inputs,
     executors: Vec<(NodeId, Box<dyn Executor + Send>)>,
 ) -> Result<Report, Stop>
-    requires { length inputs.names.items ≡ length inputs.jobs.items }
-    ensures run { IfOk result (λ report. IsRunOf setup (map string_bytes inputs.names.items) (string_bytes report.text) report.saved.items (map (λ each. each.place) report.failed.items)) }
+    ensures run { IfOk result (λ report. IsRun setup (map string_bytes inputs.names.items) inputs.jobs.items (map (λ each. each.0) executors.items) (map (λ each. history each.1) executors.items)
+        (string_bytes report.text) (map (λ each. each.place) report.failed.items)) }
+    ensures saved { IfOk result (λ report. IsRecordOf setup report.saved.items) }
     // A record that a fault leaves is that of a farm of this setup.
     ensures left { IfErr result (λ stop. IfSome stop.saved (λ saved. IsRecordOf setup saved.items)) }
 {
@@ -391,8 +397,9 @@ pub fn solve<R: Files + AllocGlobal + Threads + Wait + Sync, O: Write, E: Write>
     err: &mut E,
 ) -> Ended
     // At status 0 the standard output has the lines of a run of the files, and each that failed has its cause.
-    ensures done { result.status ≡ DONE → (text : List ℕ) × (saved : List ℕ)
-        × IsRunOf (record { nodes = order.entry.nodes }) (names_of files.items) text saved (map (λ each. each.place) result.failed.items)
+    ensures done { result.status ≡ DONE → (text : List ℕ)
+        × IsRunOf (record { nodes = order.entry.nodes }) files.items (map (λ each. each.0) executors.items) (map (λ each. history each.1) executors.items)
+        text (map (λ each. each.place) result.failed.items)
         × Appends (O.contents out.old) (O.contents out.new) text }
     ensures quiet { result.status ≢ DONE → result.status ≢ FAULT → out.new ≡ out.old }
 {

@@ -1,4 +1,4 @@
-ghost use Rattle.std.specs.Prelude.{◌≡◌, ◌≤◌, false, not, Some, Ok, Err, IfOk, IfErr, OnOk, OnErr, option_copied, length};
+ghost use Rattle.std.specs.Prelude.{◌≡◌, ◌≤◌, ◌+◌, false, not, Some, Ok, Err, IfOk, IfErr, OnOk, OnErr, option_copied, length};
 ghost use Rattle.std.specs.Result.{is_ok};
 ghost use Rattle.std.specs.List.{list_any};
 ghost use Rattle.std.specs.List.Sorted.{IsStrictlySortedBy};
@@ -268,7 +268,8 @@ impl<K: Keeper> Coordinator<K> {
 
     /// The most messages that one message can make it send.
     pub fn most_sends(&self) -> usize
-        ensures { (y : ToCoord) → length (handled farm_limits y (begin_work (ledger self.now.held))).sends ≤ result }
+        ensures most { (y : ToCoord) → length (handled farm_limits y (begin_work (ledger self.now.held))).sends ≤ result }
+        ensures value { result ≡ 1 + length self.now.held.parked }
     {
         1 + self.ledger.state().parked.waiting().len()
     }
@@ -278,6 +279,7 @@ impl<K: Keeper> Coordinator<K> {
         ensures withdraw { (t : Ticket) (w : Work) → withdrawn farm_limits t (begin_work (ledger self.now.held)) ≡ Ok w → length w.sends ≤ result }
         ensures retire { (n : NodeId) (w : Work) → retired farm_limits n (begin_work (ledger self.now.held)) ≡ Ok w → length w.sends ≤ result }
         ensures prune { (s : Slot) (w : Work) → pruned farm_limits s (begin_work (ledger self.now.held)) ≡ Ok w → length w.sends ≤ result }
+        ensures value { result ≡ length self.now.held.parked }
     {
         self.ledger.state().parked.waiting().len()
     }

@@ -1,5 +1,5 @@
 //! What lasts of a node's process, and the files of its agent.
-ghost use Rattle.std.specs.Prelude.{◌≡◌, Bool, true, ℕ, OnOk, Some, None};
+ghost use Rattle.std.specs.Prelude.{◌≡◌, ◌⊎◌, Bool, true, ℕ, OnOk, OnErr, Some, None};
 ghost use Rattle.names.specs.declared.digest.Digest.{Digest};
 ghost use Rattle.names.specs.Contents.{content_digest};
 ghost use Rattle.nodestore.specs.declared.store.FileFault.TheVariants as faults;
@@ -57,6 +57,7 @@ pub trait Store: Drop {
     /// Keeps a life: it lasts from this answer on.
     fn keep_life(&mut self, life: Life) -> Result<(), StoreFault>
         ensures life { OnOk result (last_life self.new ≡ life.0) }
+        ensures err { OnErr result ((last_life self.new ≡ last_life self.old) ⊎ (last_life self.new ≡ life.0)) }
         ensures contents { StayKept kept None self.old self.new };
 
     /// Keeps the content of this digest no longer. Where the device fails it may be found again.

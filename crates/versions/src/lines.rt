@@ -1,5 +1,5 @@
 //! The lines of slots, and what a commit adds to them.
-ghost use Rattle.std.specs.Prelude.{◌≡◌, ◌≢◌, not, ◌<◌, ◌≤◌, ◌^◌, [], map, length, All, IfOk, IsOk, OnOk, ◌∷◌, IfSome, IfNone, MatchResult, unwrap_or, option_copied, is_some, vec_len, ◌+◌, Some};
+ghost use Rattle.std.specs.Prelude.{◌≡◌, ◌≢◌, not, ◌<◌, ◌≤◌, ◌^◌, [], map, length, All, IfOk, IsOk, OnOk, OnErr, ◌∷◌, IfSome, IfNone, MatchResult, unwrap_or, option_copied, is_some, vec_len, ◌+◌, Some};
 ghost use Rattle.std.specs.List.{list_any};
 ghost use Rattle.std.specs.List.Sorted.{IsStrictlySortedBy};
 ghost use Rattle.std.specs.Vec.{vec_capacity};
@@ -172,7 +172,8 @@ impl Lines {
     pub fn push(&mut self, more: SlotLine, version: LineVersion) -> Result<(), AllocError>
         requires one { more.line ≡ version ∷ [] }
         requires above { IsAbove self.old version.ticket more.slot }
-        ensures { OnOk result (line_at self.new ≡ adds more.slot version (line_at self.old)) }
+        ensures added { OnOk result (line_at self.new ≡ adds more.slot version (line_at self.old)) }
+        ensures err { OnErr result (self.new ≡ self.old) }
     {
         push_line(&mut self.lines, more, version)
     }
@@ -478,6 +479,7 @@ fn push_line(
     requires one { more.line ≡ version ∷ [] }
     requires above { IsAbove lines.old.items version.ticket more.slot }
     ensures lines { OnOk result (line_at lines.new.items ≡ adds more.slot version (line_at lines.old.items)) }
+    ensures err { OnErr result (lines.new.items ≡ lines.old.items) }
     ensures sound { AreLines lines.new.items }
 {
     match place_of(lines.as_slice(), &more.slot) {

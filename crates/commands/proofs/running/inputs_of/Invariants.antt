@@ -1,15 +1,16 @@
-use Rattle.std.proofs.Common.{◌≡◌, ◌+◌, ◌++◌, length}
+use Rattle.std.proofs.Common.{◌≡◌, List, ◌++◌}
 use Rattle.std.specs.Prelude.{map}
+use Rattle.std.specs.List.{AllZip}
 use Rattle.std.specs.String.{string_bytes}
-use Rattle.std.specs.Vec.Iter.{into_iter_items, into_iter_len}
-use Rattle.commands.specs.Runs.{names_of}
+use Rattle.commands.specs.Acts.{File}
+use Rattle.commands.specs.Runs.{names_of, IsJobOf}
 use Rattle.commands.proofs.running.inputs_of.Given as goal
 
+-- the files so far have these names and jobs
 abbrev pub invariant-loop-name : goal.invariant-loop-name
 invariant-loop-name l = record {
-  can : (goal.iterator-loop-name).can_next l.name-iterator;
-  finite : (goal.iterator-loop-name).is_finite l.name-iterator;
-  names : map string_bytes l.inputs.names.items ++ names_of (into_iter_items l.name-iterator) ≡ names_of l.fn.files.items;
-  count : length l.inputs.jobs.items + length (into_iter_items l.name-iterator) ≡ length l.fn.files.items;
-  rest : into_iter_len l.name-iterator ≡ length (into_iter_items l.name-iterator);
+  can_next : (goal.iterator-loop-name).can_next l.name-iterator;
+  is_finite : (goal.iterator-loop-name).is_finite l.name-iterator;
+  so_far : (done : List File) × (done ++ l.name-iterator.rest.items ≡ l.fn.files.items)
+      × (map string_bytes l.inputs.names.items ≡ names_of done) × AllZip IsJobOf done l.inputs.jobs.items;
 }

@@ -21,3 +21,9 @@ returns-clause-retire g c = λ n w e.
 
 pub returns-clause-prune : goal.returns-clause-prune
 returns-clause-prune g c = λ s w e. omega (arith, pruned_none farm_limits s (ledger c.args.self.now.held) w e)
+
+pub returns-clause-value : goal.returns-clause-value
+returns-clause-value g c =
+    let waiting : length c.waiting.result.now ≡ length (asks_of c.state.result.now.parked) = ap (λ (ps : List Parked). length ps) c.waiting.ensures in
+    let parked : length (asks_of c.state.result.now.parked) ≡ length c.args.self.now.held.parked = ap (λ (h : Held). length h.parked) (c.state.ensures.held ∙ ap (λ (s : Seen g.row.K.Denot). s.held) c.self.view_is) in
+    omega (arith, parked, waiting)
