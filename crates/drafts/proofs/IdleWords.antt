@@ -10,22 +10,22 @@ use Rattle.protocol.specs.Names.{Slot, slot_eq, is_private, only_slot, FolderNam
 use Rattle.protocol.specs.Machine.{Parked}
 use Rattle.protocol.specs.Ledger.{Limits, Ledger, Lease, Work, pick, elsewhere, another, all_taken, busy, lowest, is_free, is_leased, some_lease, has_slot, has_ticket, lease_under, without, decision, tried, stays, try_all, waiting}
 use Rattle.events.specs.declared.answer.Decision.TheVariants.{Wait}
-use Rattle.leaseindex.specs.Endings.{ends_lease}
+use Rattle.holdings.specs.Endings.{ends_lease}
 use Rattle.leases.specs.Changes.{slots_ended}
 use Rattle.holdings.specs.Leases.{IsBefore}
-use Rattle.leaseindex.specs.declared.ending.Ending.{Ending}
+use Rattle.holdings.specs.declared.ending.Ending.{Ending}
 use Rattle.holdings.proofs.LeaseLemmas.{AllPairs-head, AllPairs-tail}
 use Rattle.protocol.proofs.Base.{true_false, any_in, from_any, from_filter, slot_eq_is}
 use Rattle.drafts.specs.Idle.{slots_under, is_open, IsIdle, AreIdle}
 use Rattle.effects.specs.Sound.{is_held_up, AreHeldUp}
-use Rattle.parked.specs.Spent.{is_private_spent, is_noted, IsNoted, WantsNoneOf}
+use Rattle.parked.specs.Noted.{is_noted, WantsNoneOf, WantsNone}
+use Rattle.effects.specs.Spent.{is_private_spent, IsNoted}
 use Rattle.names.specs.declared.limits.TheConstants.{INSTANCES}
 use Rattle.protocol.specs.Farm.{farm_limits}
 use Rattle.names.specs.Folders.{folder_eq}
 use Rattle.names.proofs.CompareLaws.{folder_eq-itself}
-use Rattle.leaseindex.proofs.MarkLemmas.{drop-item}
+use Rattle.holdings.proofs.PlaceLemmas.{drop-item}
 use Rattle.parked.specs.Over.{Begins, still_at}
-use Rattle.parked.specs.Noted.{WantsNone}
 use Rattle.parked.proofs.WaitingWords.{begins-before, stays-first}
 use Rattle.drafts.proofs.HeldUp.{LeasesMore, tried-more, any_more, either_more}
 use Rattle.drafts.proofs.StateWords.{decision-is}

@@ -14,7 +14,8 @@ use Rattle.events.specs.declared.answer.Decision.{Decision}
 use Rattle.events.specs.declared.answer.Decision.TheVariants.{Give, Deny, Wait}
 use Rattle.protocol.proofs.Base.{true_false, slot_eq_is, any_in, from_any, from_map, in_append, in_one}
 use Rattle.leases.specs.Table.{is_spent}
-use Rattle.parked.specs.Spent.{is_private_spent, is_noted, IsNoted}
+use Rattle.parked.specs.Noted.{is_noted}
+use Rattle.effects.specs.Spent.{is_private_spent, IsNoted}
 use Rattle.effects.proofs.SpentWords.{spent_before}
 use Rattle.drafts.proofs.IdleWords.{leased-among}
 use Rattle.drafts.proofs.Trying.{tried-is}

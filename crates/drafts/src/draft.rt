@@ -28,7 +28,7 @@ use farm_base::{
     Copied, FromCoord, Grant, Items, Life, News, NodeId, Parked, Request, Slot, Ticket, ToCoord,
     Why,
 };
-use leases::Ending;
+use holdings::Ending;
 use parked::{Over, ParkedChange, split_over, take_out, without_first};
 use std::alloc::{AllocError, Global};
 use std::mem;

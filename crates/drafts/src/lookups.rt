@@ -4,7 +4,7 @@ ghost use Rattle.protocol.specs.Lists.{In};
 ghost use Rattle.protocol.specs.Farm.{farm_limits};
 ghost use Rattle.protocol.specs.Names.{FolderName, Want};
 ghost use Rattle.protocol.specs.Ledger.{Ledger, is_free, elsewhere, is_parked, decision, may_commit, may_release, lease_under, without};
-ghost use Rattle.leaseindex.specs.Endings.{ends_lease};
+ghost use Rattle.holdings.specs.Endings.{ends_lease};
 ghost use Rattle.leases.specs.Table.{fit_of};
 ghost use Rattle.leases.specs.declared.lease_table.Fit.{Fit};
 ghost use Rattle.effects.specs.Sound.{AreHeldUp};
@@ -15,15 +15,18 @@ ghost use Rattle.drafts.specs.Shown.{work};
 ghost use Rattle.effects.specs.Sound.{IsSound};
 ghost use Rattle.parked.specs.Over.{Begins, still_at};
 ghost use Rattle.parked.specs.Queue.{asks_of};
-ghost use Rattle.parked.specs.Spent.{IsNoted, is_noted, is_private_spent};
+ghost use Rattle.parked.specs.Noted.{is_noted};
+ghost use Rattle.effects.specs.Spent.{IsNoted, is_private_spent};
 ghost use Rattle.parked.specs.Waiting.{ends_ask};
 
 use super::draft::Draft;
 use super::fitting::{fit_slots, keep_open};
+use effects::SpentFolders;
 use events::Decision;
 use farm_base::{Copied, Life, News, NodeId, Parked, Slot, Ticket, Want, Why};
-use leases::{Ending, Fit, TableView};
-use parked::{SpentFolders, first_over};
+use holdings::Ending;
+use leases::{Fit, TableView};
+use parked::first_over;
 use std::alloc::{AllocError, Global};
 
 impl<'s> Draft<'s> {

@@ -21,7 +21,8 @@ use super::granting::{grant_of, is_some_saved};
 use effects::State;
 use events::CoordNote;
 use farm_base::{Copied, FromCoord, Lease, News, NodeId, Parked, Slot, Ticket, empty_digest};
-use leases::{Ending, holds_wanted};
+use holdings::Ending;
+use leases::holds_wanted;
 use std::alloc::{AllocError, Global};
 use versions::{Added, Addition, Lines, additions};
 

@@ -11,13 +11,14 @@ use Rattle.protocol.specs.Names.{FolderName, Slot, slot_eq, is_private}
 use Rattle.protocol.specs.Machine.{Parked}
 use Rattle.protocol.specs.Ledger.{Lease, has_slot, some_lease, lowest}
 use Rattle.protocol.proofs.Base.{true_false, slot_eq_same, slot_eq_is, any_in, from_any, in_append, from_filter}
-use Rattle.parked.specs.Changes.{Change, changed}
-use Rattle.parked.specs.Endings.{has_ended}
-use Rattle.parked.specs.Leases.{Table}
+use Rattle.leases.specs.Changes.{Change, changed}
+use Rattle.holdings.specs.Endings.{has_ended}
+use Rattle.leases.specs.Leases.{Table}
 use Rattle.holdings.specs.Leases.{among}
-use Rattle.parked.specs.Table.{is_free, is_spent}
-use Rattle.parked.proofs.LowestLaw.{lowest_is_lowest}
-use Rattle.parked.specs.Spent.{is_private_spent, is_noted, IsNoted}
+use Rattle.leases.specs.Table.{is_free, is_spent}
+use Rattle.leases.proofs.LowestLaw.{lowest_is_lowest}
+use Rattle.parked.specs.Noted.{is_noted}
+use Rattle.effects.specs.Spent.{is_private_spent, IsNoted}
 
 -- no instance of a folder was free if none is, where each that was free still is
 pub spent_before : (free free' : Slot → Bool) (f : FolderName) → ((s : Slot) → s.folder ≡ f → free s ≡ true → free' s ≡ true) → is_spent free' f ≡ true → is_spent free f ≡ true

@@ -3,7 +3,7 @@ use Rattle.effects.specs.declared.state.State.{State}
 use Rattle.effects.specs.Held.{Held, ledger}
 use Rattle.parked.specs.Queue.{asks_of}
 use Rattle.effects.specs.Sound.{IsRightful}
-use Rattle.parked.specs.Spent.{AreNoted}
+use Rattle.effects.specs.Spent.{AreNoted}
 
 abbrev pub held : State → Held
 held s = record {

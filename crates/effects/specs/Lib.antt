@@ -1,7 +1,6 @@
 pub use Rattle.parked.specs.Queue
-pub use Rattle.parked.specs.Spent
 pub use Rattle.parked.specs.Waiting
-pub use Rattle.parked.specs.declared.spent_folders.SpentFolders
+pub mod Spent
 pub mod Held
 pub mod Keeps
 pub mod Shown

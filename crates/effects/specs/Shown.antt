@@ -3,8 +3,8 @@ use Rattle.std.specs.Prelude.{◌≡◌, ℕ, Bool, true, Option, Some, None}
 use Rattle.protocol.specs.Lists.{put}
 use Rattle.protocol.specs.Names.{NodeId}
 use Rattle.protocol.specs.Ledger.{Ledger, Work}
-use Rattle.parked.specs.Changes.{changed}
-use Rattle.parked.specs.Leases.{Table}
+use Rattle.leases.specs.Changes.{changed}
+use Rattle.leases.specs.Leases.{Table}
 use Rattle.holdings.specs.Leases.{among}
 use Rattle.parked.specs.Waiting.{waits_after}
 pub use Rattle.versions.specs.Lines.{LineOf, lines_with}

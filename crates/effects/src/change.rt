@@ -1,16 +1,18 @@
 //! What one event changes of what the coordinator keeps beside the lines, and what is looked up with the changes so far.
 ghost use Rattle.std.specs.Prelude.{◌≡◌, None, IfOk};
-ghost use Rattle.parked.specs.Table.{is_free};
+ghost use Rattle.leases.specs.Table.{is_free};
 ghost use Rattle.effects.specs.Held.{ledger, line_at};
 ghost use Rattle.effects.specs.Keeps.{held, NotesSpent};
-ghost use Rattle.parked.specs.Spent.{IsNoted, AreNoted};
+ghost use Rattle.effects.specs.Spent.{IsNoted, AreNoted};
 ghost use Rattle.effects.specs.Shown.{LineOf, after, table_after};
 
 use super::new_life::NewLife;
+use super::spent_folders::SpentFolders;
 use super::state::State;
 use farm_base::{Copied, NodeId, Parked};
 use holdings::TicketSource;
-use parked::{ParkedChange, SpentFolders, TableChange};
+use leases::TableChange;
+use parked::ParkedChange;
 use std::alloc::{AllocError, Global};
 
 /// The changes of an event. What they are changes of is passed to each call that looks at it.

@@ -4,10 +4,12 @@
 mod change;
 mod effects;
 mod new_life;
+mod spent_folders;
 mod state;
 
 pub use change::Change;
 pub use effects::{Effects, Prepared};
 pub use new_life::NewLife;
-pub use parked::{ParkedAsks, SpentFolders};
+pub use parked::ParkedAsks;
+pub use spent_folders::SpentFolders;
 pub use state::State;

@@ -1,7 +1,9 @@
 //! What the coordinator keeps.
+use super::spent_folders::SpentFolders;
 use farm_base::NodeId;
 use holdings::{Lives, RetiredNodes, TicketSource};
-use parked::{LeaseTable, ParkedAsks, SpentFolders};
+use leases::LeaseTable;
+use parked::ParkedAsks;
 use versions::Lines;
 
 /// All that the coordinator keeps.

@@ -1,5 +1,5 @@
 -- Places in numbers that rise, and a number that is inserted.
-use Rattle.std.proofs.Common.{◌≡◌, ◌≢◌, ℕ, zero, suc, ◌+◌, ◌<◌, ◌≤◌, List, [], ◌∷◌, length, get_or, map, Result, Ok, Err, refl, ◌∙◌, ap, inl, inr, arith}
+use Rattle.std.proofs.Common.{◌≡◌, ◌≢◌, ℕ, zero, suc, ◌+◌, ◌<◌, ◌≤◌, List, [], ◌∷◌, length, get_or, map, drop, add-one, drop-cons, Result, Ok, Err, refl, ◌∙◌, ap, inl, inr, arith}
 use Rattle.std.specs.Prelude.{MatchResult}
 use Rattle.std.specs.List.{insert}
 use Rattle.std.specs.List.Sorted.{IsStrictlyIncreasing, IsSortedBy, IsSearchInRange, IsBinarySearchResult}
@@ -97,3 +97,7 @@ none_in_gap n ns k gap i lt e = elim (cases_lt i k) [
   | inl low ↦ (let below = gap.below i low in absurd (omega arith))
   | inr high ↦ (let above = gap.above i high lt in absurd (omega arith))
 ]
+
+-- a list from a place on: what stands there, and what follows
+pub drop-item : {A : Type 0} (xs : List A) (i : ℕ) (d : A) → i < length xs → drop i xs ≡ get_or xs i d ∷ drop (i + 1) xs
+drop-item xs i d h = rw add-one (drop-cons xs i d h)

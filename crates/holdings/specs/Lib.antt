@@ -1,4 +1,5 @@
 pub mod Tickets
 pub mod Leases
+pub mod Endings
 pub mod Lives
 pub mod Places

@@ -33,3 +33,7 @@ life_at (l ∷ ls) n = if l.node.0 == n then l.life.0 else life_at ls n
 -- the node is among these
 abbrev pub is_among : List NodeId → ℕ → Bool
 is_among nodes n = list_any (λ node. node.0 == n) nodes
+
+-- one node
+abbrev pub node_eq : NodeId → NodeId → Bool
+node_eq m n = m.0 == n.0

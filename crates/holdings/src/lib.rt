@@ -2,12 +2,14 @@
 //! tickets come from.
 #![tactic(auto)]
 
+mod ending;
 mod lease_list;
 mod lives;
 mod retired_nodes;
 mod slot_list;
 mod ticket_source;
 
+pub use ending::{Ending, has_ended, standing};
 pub use lease_list::{is_saved, place_of};
 pub use lives::Lives;
 pub use retired_nodes::RetiredNodes;

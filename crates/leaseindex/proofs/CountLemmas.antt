@@ -10,12 +10,13 @@ use Rattle.protocol.specs.Names.{NodeId, Ticket}
 use Rattle.protocol.specs.Ledger.{has_ticket, is_at}
 use Rattle.protocol.proofs.Base.{all_in}
 use Rattle.protocol.proofs.Leases.{find_some}
-use Rattle.leaseindex.specs.Counts.{ask_eq, name_of, has_ask, ask_count, node_count, times_in, oldest_in, oldest_of, Counts, AreCounted, AreLast, node_eq}
+use Rattle.holdings.specs.Lives.{node_eq}
+use Rattle.leaseindex.specs.Counts.{ask_eq, name_of, has_ask, ask_count, node_count, times_in, oldest_in, oldest_of, Counts, AreCounted, AreLast}
 use Rattle.holdings.specs.Leases.{IsBefore}
 use Rattle.leaseindex.specs.declared.lease_counts.LeaseCount.{LeaseCount}
 use Rattle.leaseindex.specs.declared.lease_counts.LeaseCounts.{LeaseCounts}
 use Rattle.leaseindex.specs.declared.lease_counts.AskName.{AskName}
-use Rattle.leaseindex.proofs.MarkLemmas.{drop-item}
+use Rattle.holdings.proofs.PlaceLemmas.{drop-item}
 use Rattle.holdings.proofs.LeaseLemmas.{AllPairs-head, AllPairs-tail}
 
 -- ---- what an index has of one ask

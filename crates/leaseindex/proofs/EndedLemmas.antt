@@ -6,9 +6,9 @@ use Rattle.std.proofs.lemmas.List.Elements.{All-filter}
 use Rattle.std.proofs.lemmas.List.Kept.{AllPairs-filter}
 use Rattle.farm_base.specs.declared.lease.Lease.{Lease}
 use Rattle.holdings.specs.Leases.{AreLeases, AreApart, IsBefore, Rises}
-use Rattle.leaseindex.specs.declared.ending.Ending.{Ending}
-use Rattle.leaseindex.specs.Endings.{ends_lease, has_ended}
-use Rattle.leaseindex.proofs.MarkLemmas.{drop-item}
+use Rattle.holdings.specs.declared.ending.Ending.{Ending}
+use Rattle.holdings.specs.Endings.{ends_lease, has_ended}
+use Rattle.holdings.proofs.PlaceLemmas.{drop-item}
 
 -- what passes neither of two tests
 pub filter_twice : {A : Type 0} (p q r : A → Bool) → ((x : A) → r x ≡ (p x || q x)) → (xs : List A) → filter (λ x. not (r x)) xs ≡ filter (λ x. not (q x)) (filter (λ x. not (p x)) xs)

@@ -9,8 +9,8 @@ use Rattle.std.specs.Option.{option_copied, option_or}
 use Rattle.farm_base.specs.declared.lease.Lease.{Lease}
 use Rattle.protocol.specs.Names.{Ticket}
 use Rattle.protocol.specs.Ledger.{has_ticket}
-use Rattle.leaseindex.specs.declared.ending.Ending.{Ending}
-use Rattle.leaseindex.specs.Endings.{has_ended, standing}
+use Rattle.holdings.specs.declared.ending.Ending.{Ending}
+use Rattle.holdings.specs.Endings.{has_ended, standing}
 use Rattle.holdings.specs.Leases.{IsBefore}
 use Rattle.holdings.proofs.LeaseLemmas.{AllPairs-head, AllPairs-tail}
 

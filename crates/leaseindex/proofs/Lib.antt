@@ -1,4 +1,3 @@
-pub mod MarkLemmas
 pub mod EndedLemmas
 pub mod FindLemmas
 pub mod OldestLemmas

@@ -10,7 +10,7 @@ use Rattle.protocol.specs.Ledger.{has_slot}
 use Rattle.holdings.specs.Leases.{IsBefore}
 use Rattle.leaseindex.specs.Live.{older, holds_some}
 use Rattle.holdings.specs.Leases.{takes}
-use Rattle.leaseindex.proofs.MarkLemmas.{drop-item}
+use Rattle.holdings.proofs.PlaceLemmas.{drop-item}
 use Rattle.holdings.proofs.LeaseLemmas.{AllPairs-head, AllPairs-tail}
 
 -- ---- which of two is older

@@ -15,11 +15,11 @@ use Rattle.protocol.specs.Names.{Slot, FolderName, slot_eq}
 use Rattle.protocol.specs.Ledger.{has_slot, some_lease}
 use Rattle.leaseindex.specs.Instances.{has_of, instances_of, slot_instances, slot_names, lease_instances, AreTaken, AreRetired}
 use Rattle.leaseindex.specs.declared.instances.Instances.{Instances}
-use Rattle.leaseindex.specs.declared.ending.Ending.{Ending}
-use Rattle.leaseindex.specs.Endings.{ends_lease, has_ended}
+use Rattle.holdings.specs.declared.ending.Ending.{Ending}
+use Rattle.holdings.specs.Endings.{ends_lease, has_ended}
 use Rattle.holdings.specs.Leases.{AreApart, among}
 use Rattle.leaseindex.proofs.FindLemmas.{PassesOnce}
-use Rattle.leaseindex.proofs.MarkLemmas.{drop-item}
+use Rattle.holdings.proofs.PlaceLemmas.{drop-item}
 use Rattle.holdings.proofs.LeaseLemmas.{AllPairs-head, AllPairs-tail}
 
 -- ---- an index that is set at one folder

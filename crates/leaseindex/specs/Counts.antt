@@ -5,15 +5,13 @@ use Rattle.indexmap.specs.IndexMap.{get, spare}
 use Rattle.farm_base.specs.declared.lease.Lease.{Lease}
 use Rattle.protocol.specs.Names.{NodeId, Ticket}
 use Rattle.protocol.specs.Ledger.{is_at, is_of}
+use Rattle.holdings.specs.Lives.{node_eq}
 use Rattle.leaseindex.specs.declared.lease_counts.AskName.{AskName}
 use Rattle.leaseindex.specs.declared.lease_counts.LeaseCount.{LeaseCount}
 use Rattle.leaseindex.specs.declared.lease_counts.LeaseCounts.{LeaseCounts}
 
 abbrev pub ask_eq : AskName → AskName → Bool
 ask_eq a b = (a.node.0 == b.node.0) && ((a.life.0 == b.life.0) && (a.ask.0 == b.ask.0))
-
-abbrev pub node_eq : NodeId → NodeId → Bool
-node_eq m n = m.0 == n.0
 
 -- the ask of a lease
 abbrev pub name_of : Lease → AskName

@@ -1,6 +1,5 @@
 pub mod Index
 pub mod Instances
-pub mod Endings
 pub mod Counts
 pub mod Live
 pub mod Marks

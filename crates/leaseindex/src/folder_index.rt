@@ -4,12 +4,12 @@ ghost use Rattle.std.specs.Map.{update_all};
 ghost use Rattle.indexmap.specs.IndexMap.{spare};
 ghost use Rattle.names.specs.Folders.{folder_eq};
 ghost use Rattle.farm_base.specs.declared.lease.Lease.{Lease};
-ghost use Rattle.leaseindex.specs.Endings.{ends_lease};
+ghost use Rattle.holdings.specs.Endings.{ends_lease};
 ghost use Rattle.leaseindex.specs.Index.{ticket_at, IsIndexed, AreIndexed, slot_entries, index_entries};
 ghost use Rattle.holdings.specs.Leases.{AreLeases};
 
-use super::ending::Ending;
 use farm_base::{Copied, FolderName, Lease, Slot, Ticket};
+use holdings::Ending;
 use indexmap::IndexMap;
 use std::alloc::{AllocError, Global};
 

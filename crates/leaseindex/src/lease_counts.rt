@@ -3,12 +3,12 @@ ghost use Rattle.std.specs.Prelude.{◌≡◌, ◌+◌, ◌<◌, ◌≤◌, [], 
 ghost use Rattle.indexmap.specs.IndexMap.{get, spare};
 ghost use Rattle.farm_base.specs.declared.lease.Lease.{Lease};
 ghost use Rattle.protocol.specs.Ledger.{is_at};
-ghost use Rattle.leaseindex.specs.Endings.{ends_lease};
+ghost use Rattle.holdings.specs.Endings.{ends_lease};
 ghost use Rattle.leaseindex.specs.Counts.{name_of, ask_count, node_count, count_room, oldest_of, Counts, AreCounted, AreLast};
 ghost use Rattle.holdings.specs.Leases.{IsBefore};
 
-use super::ending::Ending;
 use farm_base::{Ask, Lease, Life, NodeId, Ticket};
+use holdings::Ending;
 use indexmap::IndexMap;
 use std::alloc::{AllocError, Global};
 use std::hash::Hash;

@@ -11,7 +11,6 @@ mod marks;
 mod retired_slots;
 mod taken_instances;
 
-pub use ending::{Ending, has_ended, standing};
 pub use held::{first_of, has_only, is_of, takes};
 pub use instances::Instances;
 pub use live_leases::{Entries, LiveLeases};

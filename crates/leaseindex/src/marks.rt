@@ -1,13 +1,13 @@
 //! Sets of a folder's instances, from the slots of leases.
 ghost use Rattle.protocol.specs.Names.{slot_eq};
 ghost use Rattle.protocol.specs.Ledger.{has_slot, some_lease};
-ghost use Rattle.leaseindex.specs.Endings.{frees};
+ghost use Rattle.holdings.specs.Endings.{frees};
 ghost use Rattle.leaseindex.specs.Marks.{Marks, Unmarks};
 ghost use Rattle.holdings.specs.Leases.{among};
 
-use super::ending::Ending;
 use super::instances::Instances;
 use farm_base::{FolderName, Lease, Slot};
+use holdings::Ending;
 
 /// Adds the instance of a slot, if the slot is of the folder.
 fn mark(marks: &mut Instances, folder: &FolderName, slot: &Slot)

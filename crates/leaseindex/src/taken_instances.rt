@@ -5,12 +5,12 @@ ghost use Rattle.names.specs.Folders.{folder_eq};
 ghost use Rattle.names.specs.declared.limits.TheConstants.{INSTANCES};
 ghost use Rattle.protocol.specs.Names.{FolderName};
 ghost use Rattle.protocol.specs.Ledger.{has_slot};
-ghost use Rattle.leaseindex.specs.Endings.{frees};
+ghost use Rattle.holdings.specs.Endings.{frees};
 ghost use Rattle.leaseindex.specs.Instances.{has, is_taken, folder_room, slot_instances, lease_instances, AreTaken};
 
-use super::ending::Ending;
 use super::instances::Instances;
 use farm_base::{Copied, FolderName, Lease, Slot};
+use holdings::Ending;
 use indexmap::IndexMap;
 use std::alloc::{AllocError, Global};
 

@@ -11,11 +11,11 @@ use Rattle.std.proofs.lemmas.List.Filters.{length-filter_both}
 use Rattle.farm_base.specs.declared.lease.Lease.{Lease}
 use Rattle.protocol.specs.Names.{Slot, NodeId}
 use Rattle.protocol.specs.Ledger.{is_at}
-use Rattle.leaseindex.specs.declared.ending.Ending.{Ending}
+use Rattle.holdings.specs.declared.ending.Ending.{Ending}
 use Rattle.leases.specs.Leases.{Table}
 use Rattle.holdings.specs.Leases.{AreLeases}
 use Rattle.leases.specs.Changes.{Change, changed, slots_ended}
-use Rattle.leaseindex.specs.Endings.{ends_lease, has_ended}
+use Rattle.holdings.specs.Endings.{ends_lease, has_ended}
 use Rattle.leases.specs.Table.{all_private, private_slots}
 use Rattle.leaseindex.proofs.EndedLemmas.{filter_twice, none_ended, leases-filter}
 

@@ -6,9 +6,9 @@ use Rattle.std.specs.Prelude.{All, AllPairs}
 use Rattle.farm_base.specs.declared.lease.Lease.{Lease}
 use Rattle.protocol.specs.Names.{Ticket}
 use Rattle.protocol.specs.Ledger.{has_ticket, is_saved, lease_under}
-use Rattle.leaseindex.specs.declared.ending.Ending.{Ending}
-use Rattle.leaseindex.specs.declared.ending.Ending.TheVariants as ending
-use Rattle.leaseindex.specs.Endings.{ends_lease, has_ended}
+use Rattle.holdings.specs.declared.ending.Ending.{Ending}
+use Rattle.holdings.specs.declared.ending.Ending.TheVariants as ending
+use Rattle.holdings.specs.Endings.{ends_lease, has_ended}
 use Rattle.leases.specs.Changes.{saved_tickets, ticket_of_saved}
 use Rattle.leaseindex.specs.Counts.{AreLast}
 use Rattle.holdings.specs.Leases.{IsBefore}

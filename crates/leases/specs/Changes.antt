@@ -4,8 +4,8 @@ use Rattle.std.specs.List.{flat_map}
 use Rattle.farm_base.specs.declared.lease.Lease.{Lease}
 use Rattle.protocol.specs.Names.{Slot, FolderName, Ticket}
 use Rattle.protocol.specs.Ledger.{is_saved}
-use Rattle.leaseindex.specs.declared.ending.Ending.{Ending}
-use Rattle.leaseindex.specs.Endings.{ends_lease, has_ended}
+use Rattle.holdings.specs.declared.ending.Ending.{Ending}
+use Rattle.holdings.specs.Endings.{ends_lease, has_ended}
 use Rattle.leaseindex.specs.Index.{index_entries}
 use Rattle.leaseindex.specs.Instances.{lease_instances, slot_names}
 use Rattle.leases.specs.Leases.{Table}

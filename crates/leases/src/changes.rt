@@ -4,7 +4,7 @@ ghost use Rattle.std.specs.List.Sorted.{IsStrictlySortedBy};
 ghost use Rattle.names.specs.Slots.{slot_cmp};
 ghost use Rattle.protocol.specs.Ledger.{lease_under, without, is_older, is_at, is_saved, retire_all};
 ghost use Rattle.leases.specs.Changes.{changed, saved_tickets};
-ghost use Rattle.leaseindex.specs.Endings.{ends_lease};
+ghost use Rattle.holdings.specs.Endings.{ends_lease};
 ghost use Rattle.leases.specs.Leases.{Table};
 ghost use Rattle.holdings.specs.Leases.{AreLeases};
 ghost use Rattle.holdings.specs.Leases.{among};
@@ -15,8 +15,7 @@ use super::lease_table::LeaseTable;
 use super::saved::{saved_copies, saved_tickets, ticket_of_saved};
 use super::view::TableView;
 use farm_base::{Lease, Life, NodeId, Parked, Slot, Ticket, copy_all};
-use holdings::rising;
-use leaseindex::Ending;
+use holdings::{Ending, rising};
 use std::alloc::{AllocError, Global};
 use std::marker::Model;
 

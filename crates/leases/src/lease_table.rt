@@ -4,7 +4,7 @@ ghost use Rattle.std.specs.List.Sorted.{IsStrictlySortedBy};
 ghost use Rattle.names.specs.Slots.{slot_cmp};
 ghost use Rattle.protocol.specs.Ledger.{has_slot, lease_under, is_at};
 ghost use Rattle.leases.specs.Changes.{changed};
-ghost use Rattle.leaseindex.specs.Endings.{ends_lease};
+ghost use Rattle.holdings.specs.Endings.{ends_lease};
 ghost use Rattle.leaseindex.specs.Counts.{AreLast};
 ghost use Rattle.holdings.specs.Leases.{AreLeases};
 ghost use Rattle.holdings.specs.Leases.{among};
@@ -13,7 +13,8 @@ ghost use Rattle.leases.specs.Table.{is_leased, state_of};
 use super::held::{among, has_slot};
 use super::view::TableView;
 use farm_base::{Lease, NodeId, Slot, Ticket};
-use leaseindex::{Ending, LiveLeases, RetiredSlots};
+use holdings::Ending;
+use leaseindex::{LiveLeases, RetiredSlots};
 use std::alloc::{AllocError, Global};
 use std::marker::Model;
 

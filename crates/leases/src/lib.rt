@@ -14,6 +14,5 @@ mod view;
 pub use changes::TableChange;
 pub use held::holds_wanted;
 pub use lease_table::{Fit, LeaseTable, SlotState};
-pub use leaseindex::Ending;
 pub use room::TableWithRoom;
 pub use view::TableView;

@@ -8,7 +8,7 @@ ghost use Rattle.leases.specs.Table.{fit_of, lease_for, retires_some};
 
 use super::lease_table::{Fit, LeaseTable};
 use farm_base::{Ask, Lease, Life, NodeId, Ticket, Wants};
-use leaseindex::Ending;
+use holdings::Ending;
 use std::alloc::{AllocError, Global};
 
 impl LeaseTable {

@@ -4,8 +4,7 @@ ghost use Rattle.protocol.specs.Ledger.{is_saved};
 ghost use Rattle.leases.specs.Changes.{ticket_of_saved, saved_tickets};
 
 use farm_base::{Copied, Lease, Ticket};
-use holdings::is_saved;
-use leaseindex::{Ending, has_ended};
+use holdings::{Ending, has_ended, is_saved};
 use std::alloc::{AllocError, Global};
 
 /// The ticket of the lease, if there is one and the record has it.

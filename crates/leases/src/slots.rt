@@ -1,12 +1,12 @@
 //! The PRIVATE slots of leases, and copies of leases.
 ghost use Rattle.std.specs.Prelude.{◌≡◌, ◌++◌, not, filter, IfOk, OnOk};
 ghost use Rattle.protocol.specs.Ledger.{is_at};
-ghost use Rattle.leaseindex.specs.Endings.{has_ended};
+ghost use Rattle.holdings.specs.Endings.{has_ended};
 ghost use Rattle.leases.specs.Changes.{slots_ended};
 ghost use Rattle.leases.specs.Table.{private_slots, all_private};
 
 use farm_base::{Copied, Lease, Mode, NodeId, Slot, copy_all};
-use leaseindex::{Ending, has_ended};
+use holdings::{Ending, has_ended};
 use std::alloc::{AllocError, Global};
 
 /// The PRIVATE slots of a lease.

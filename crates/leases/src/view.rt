@@ -20,10 +20,9 @@ use farm_base::{
     Ask, Copied, FolderName, INSTANCES, Items, Lease, Life, Mode, NodeId, Slot, Ticket, Want,
     Wants, copy_all,
 };
-use holdings::rising;
+use holdings::{Ending, has_ended, rising, standing};
 use leaseindex::{
-    Ending, Instances, LiveLeases, RetiredSlots, first_of, has_ended, has_only, is_of, mark_all,
-    mark_leased, standing, takes,
+    Instances, LiveLeases, RetiredSlots, first_of, has_only, is_of, mark_all, mark_leased, takes,
 };
 use std::alloc::{AllocError, Global};
 use std::marker::Model;

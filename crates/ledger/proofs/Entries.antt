@@ -7,9 +7,9 @@ use Rattle.std.proofs.lemmas.List.{append-nil}
 use Rattle.std.proofs.lemmas.List.Elements.{All-filter, filter-append}
 use Rattle.std.proofs.lemmas.List.Kept.{AllPairs-filter}
 use Rattle.names.specs.declared.limits.TheConstants.{NODES}
-use Rattle.leaseindex.specs.Endings.{has_ended}
+use Rattle.holdings.specs.Endings.{has_ended}
 use Rattle.leases.specs.Changes.{saved_tickets}
-use Rattle.leaseindex.specs.declared.ending.Ending.{Ending}
+use Rattle.holdings.specs.declared.ending.Ending.{Ending}
 use Rattle.holdings.specs.Leases.{IsBefore, IsOpen, Rises}
 use Rattle.holdings.proofs.LeaseLemmas.{AllPairs-head, AllPairs-tail, tickets_rise}
 use Rattle.protocol.specs.Farm.{farm_limits}

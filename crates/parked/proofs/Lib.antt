@@ -1,5 +1,3 @@
-pub use Rattle.leases.proofs.ChangeLemmas
-pub use Rattle.leases.proofs.LowestLaw
 pub mod NewestLemmas
 pub mod WaitingWords
 pub mod PassedWords

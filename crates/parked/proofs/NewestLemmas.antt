@@ -5,7 +5,7 @@ use Rattle.std.proofs.lemmas.Bool.{cases_Bool, and_parts, eqb-true}
 use Rattle.std.proofs.lemmas.Bool.Decides.{nat_tests}
 use Rattle.protocol.specs.Names.{NodeId, Life, Ask}
 use Rattle.indexmap.specs.IndexMap.{IndexMap, get}
-use Rattle.leaseindex.specs.Counts.{node_eq}
+use Rattle.holdings.specs.Lives.{node_eq}
 use Rattle.parked.specs.Newest.{newest_of, is_known, is_newer, knows}
 use Rattle.parked.specs.declared.newest_asks.NewestAsk.{NewestAsk}
 use Rattle.parked.specs.declared.newest_asks.NewestAsks.{NewestAsks}

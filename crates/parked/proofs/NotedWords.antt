@@ -21,9 +21,8 @@ use Rattle.protocol.specs.Machine.{Parked}
 use Rattle.protocol.proofs.Base.{any_in, from_any}
 use Rattle.parked.specs.Over.{is_over_at, later_over, still_at}
 use Rattle.parked.specs.Numbers.{number_after, numbers_from, number_behind}
-use Rattle.leaseindex.specs.Counts.{node_eq}
-use Rattle.parked.specs.Noted.{has_number, notes_want, notes_node, notes_some, notes_one, IsIndexed, AreIndexed, Keeps, KeepsOf, Reaches, WantsNone}
-use Rattle.parked.specs.Spent.{is_noted, WantsNoneOf}
+use Rattle.holdings.specs.Lives.{node_eq}
+use Rattle.parked.specs.Noted.{has_number, notes_want, notes_node, notes_some, notes_one, IsIndexed, AreIndexed, Keeps, KeepsOf, Reaches, WantsNone, is_noted, WantsNoneOf}
 use Rattle.parked.specs.declared.noted_asks.NotedAsks.{NotedAsks}
 use Rattle.parked.proofs.NewestWords.{all-still}
 

@@ -5,7 +5,7 @@ use Rattle.std.proofs.Math.ListN.{drop_of_length-le}
 use Rattle.std.proofs.lemmas.Bool.{cases_lt}
 use Rattle.std.proofs.lemmas.List.{drop-append-le, drop-set, drop-set-lt, get_or-set_other, length-set}
 use Rattle.std.proofs.lemmas.List.Edits.{swap_is}
-use Rattle.leaseindex.proofs.MarkLemmas.{drop-item}
+use Rattle.holdings.proofs.PlaceLemmas.{drop-item}
 use Rattle.parked.specs.Over.{Begins, still_at, AreRising}
 use Rattle.parked.proofs.WaitingWords.{over-first, stays-first, still-none}
 

@@ -1,11 +1,6 @@
-pub use Rattle.leaseindex.specs.Endings
-pub use Rattle.leases.specs.Changes
-pub use Rattle.leases.specs.Leases
-pub use Rattle.leases.specs.Table
 pub mod Over
 pub mod Waiting
 pub mod Numbers
 pub mod Queue
 pub mod Newest
 pub mod Noted
-pub mod Spent

@@ -3,7 +3,7 @@ use Rattle.std.specs.Prelude.{◌≡◌, ◌==◌, ◌&&◌, ◌||◌, not, nat_
 use Rattle.indexmap.specs.IndexMap.{IndexMap, get, spare}
 use Rattle.protocol.specs.Machine.{Parked}
 use Rattle.protocol.specs.Names.{NodeId, Life, Ask}
-use Rattle.leaseindex.specs.Counts.{node_eq}
+use Rattle.holdings.specs.Lives.{node_eq}
 use Rattle.parked.specs.declared.newest_asks.NewestAsk.{NewestAsk}
 use Rattle.parked.specs.declared.newest_asks.NewestAsks.{NewestAsks}
 

@@ -8,7 +8,7 @@ use Rattle.names.specs.Folders.{folder_eq}
 use Rattle.protocol.specs.Lists.{In}
 use Rattle.protocol.specs.Names.{FolderName, NodeId, Slot, Want}
 use Rattle.protocol.specs.Machine.{Parked}
-use Rattle.leaseindex.specs.Counts.{node_eq}
+use Rattle.holdings.specs.Lives.{node_eq}
 use Rattle.parked.specs.declared.noted_asks.NotedAsks.{NotedAsks}
 
 -- the number is among these, if there are some
@@ -60,3 +60,11 @@ notes_one x folders n = list_any (λ f. notes_want x f n) folders
 -- the ask wants no folder of these slots
 abbrev pub WantsNone : List (Slot × Bool) → Parked → Type 0
 WantsNone slots p = (w : Want) → In w p.wants → list_any (λ held. folder_eq held.0.folder w.folder) slots ≡ false
+
+-- the folder is among these
+abbrev pub is_noted : List FolderName → FolderName → Bool
+is_noted noted f = list_any (λ g. folder_eq g f) noted
+
+-- the ask wants none of these folders
+abbrev pub WantsNoneOf : List FolderName → Parked → Type 0
+WantsNoneOf folders p = (w : Want) → In w p.wants → is_noted folders w.folder ≡ false

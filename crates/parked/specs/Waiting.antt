@@ -2,8 +2,8 @@
 use Rattle.std.specs.Prelude.{◌==◌, Bool, false, List, ◌++◌}
 use Rattle.protocol.specs.Machine.{Parked}
 use Rattle.protocol.specs.Ledger.{is_older_ask}
-use Rattle.leaseindex.specs.declared.ending.Ending.{Ending}
-use Rattle.leaseindex.specs.declared.ending.Ending.TheVariants as ending
+use Rattle.holdings.specs.declared.ending.Ending.{Ending}
+use Rattle.holdings.specs.declared.ending.Ending.TheVariants as ending
 use Rattle.parked.specs.Over.{still_waiting}
 use Rattle.parked.specs.declared.parked_change.ParkedChange.{ParkedChange}
 

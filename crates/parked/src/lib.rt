@@ -8,11 +8,8 @@ mod over;
 mod parked_asks;
 mod parked_change;
 mod passing;
-mod spent_folders;
 
-pub use leases::{LeaseTable, TableChange};
 pub use over::{Over, first_over, split_over};
 pub use parked_asks::ParkedAsks;
 pub use parked_change::ParkedChange;
 pub use passing::{take_out, without_first};
-pub use spent_folders::SpentFolders;

@@ -2,7 +2,7 @@
 ghost use Rattle.std.specs.Prelude.{◌≡◌, ◌+◌, ◌<◌, ◌≤◌, ◌&&◌, not, true, false, option_copied, OnOk};
 ghost use Rattle.protocol.specs.Names.{NodeId, Life, Ask};
 ghost use Rattle.parked.specs.Newest.{knows, is_known, is_newer, node_room};
-ghost use Rattle.leaseindex.specs.Counts.{node_eq};
+ghost use Rattle.holdings.specs.Lives.{node_eq};
 
 use farm_base::{Ask, Life, NodeId};
 use indexmap::IndexMap;

@@ -3,8 +3,7 @@ ghost use Rattle.std.specs.Prelude.{◌≡◌, ◌==◌, ◌≤◌, ◌<◌, ℕ
 ghost use Rattle.std.specs.List.Sorted.{IsNonDecreasing};
 ghost use Rattle.protocol.specs.Machine.{Parked};
 ghost use Rattle.parked.specs.Newest.{knows, node_room, AreKnown};
-ghost use Rattle.parked.specs.Spent.{WantsNoneOf};
-ghost use Rattle.parked.specs.Noted.{AreIndexed, WantsNone};
+ghost use Rattle.parked.specs.Noted.{WantsNoneOf, AreIndexed, WantsNone};
 ghost use Rattle.parked.specs.Waiting.{ends_ask};
 
 use super::newest_asks::NewestAsks;
@@ -12,7 +11,7 @@ use super::noted_asks::NotedAsks;
 use super::numbers::Numbers;
 use super::passing::behind;
 use farm_base::{Ask, FolderName, Life, NodeId, Parked, Slot};
-use leases::Ending;
+use holdings::Ending;
 use std::alloc::Global;
 
 /// The asks that wait, in order of arrival. A node numbers its asks in turn, so nearly each new one is known not to wait

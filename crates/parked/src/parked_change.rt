@@ -10,7 +10,7 @@ use super::over::{Over, split_over};
 use super::parked_asks::{ParkedAsks, note_all};
 use super::passing::{behind, take_out, trimmed};
 use farm_base::{Ask, Life, NodeId, Parked};
-use leases::Ending;
+use holdings::Ending;
 use std::alloc::{AllocError, Global};
 use std::mem;
 

@@ -2,7 +2,7 @@ use Rattle.std.proofs.Common.{◌≡◌, ◌≤◌, ◌+◌, ℕ, List, Bool, no
 use Rattle.std.proofs.lemmas.List.{take_all}
 use Rattle.std.specs.Vec.{vec_capacity}
 use Rattle.farm_base.specs.declared.lease.Lease.{Lease}
-use Rattle.leaseindex.specs.Endings.{ends_lease}
+use Rattle.holdings.specs.Endings.{ends_lease}
 use Rattle.leaseindex.proofs.LastLemmas.{all_stay}
 use Rattle.leaseindex.proofs.MovedLemmas.{moved_later, stays_next, goes_next}
 use Rattle.leaseindex.proofs.ending.drop_ending_from.Goals as goal

@@ -1,7 +1,7 @@
 use Rattle.std.proofs.Common.{◌≡◌, ◌≤◌, ℕ, not, filter, take, get_or, vec_len}
 use Rattle.std.specs.Vec.{vec_capacity}
 use Rattle.farm_base.specs.declared.lease.Lease.{Lease}
-use Rattle.leaseindex.specs.Endings.{ends_lease}
+use Rattle.holdings.specs.Endings.{ends_lease}
 use Rattle.leaseindex.proofs.ending.drop_ending_from.Given as goal
 
 abbrev pub invariant-loop-place : goal.invariant-loop-place

@@ -1,7 +1,7 @@
 use Rattle.std.proofs.Common.{◌≡◌, ◌≢◌, ◌≤◌, true, sym, ◌∙◌, subst, arith}
 use Rattle.indexmap.specs.IndexMap.{spare}
 use Rattle.farm_base.specs.declared.lease.Lease.{Lease}
-use Rattle.leaseindex.specs.Endings.{ends_lease}
+use Rattle.holdings.specs.Endings.{ends_lease}
 use Rattle.leaseindex.specs.Index.{ticket_at, IsIndexed}
 use Rattle.leaseindex.proofs.folder_index.forget_ending.Goals as goal
 use Rattle.leaseindex.proofs.folder_index.forget_ending.Goals.{then-ends, else-ends}

@@ -1,5 +1,5 @@
 use Rattle.std.proofs.Common.{◌≡◌, ℕ, ◌≤◌, ◌&&◌, not, drop}
-use Rattle.leaseindex.specs.Endings.{ends_lease}
+use Rattle.holdings.specs.Endings.{ends_lease}
 use Rattle.leaseindex.specs.Instances.{has}
 use Rattle.leaseindex.proofs.TakenLemmas.{any_with}
 use Rattle.leaseindex.proofs.marks.unmark_ending.Given as goal

@@ -1,5 +1,5 @@
 use Rattle.std.proofs.Common.{◌≡◌, ◌++◌, not, drop, filter}
-use Rattle.leaseindex.specs.Endings.{has_ended}
+use Rattle.holdings.specs.Endings.{has_ended}
 use Rattle.leases.proofs.slots.copy_standing.Given as goal
 
 abbrev pub invariant-loop-lease : goal.invariant-loop-lease

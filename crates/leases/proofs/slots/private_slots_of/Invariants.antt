@@ -1,6 +1,6 @@
 use Rattle.std.proofs.Common.{◌≡◌, ◌++◌, ◌&&◌, not, drop, filter}
 use Rattle.protocol.specs.Ledger.{is_at}
-use Rattle.leaseindex.specs.Endings.{has_ended}
+use Rattle.holdings.specs.Endings.{has_ended}
 use Rattle.leases.specs.Table.{all_private}
 use Rattle.leases.proofs.slots.private_slots_of.Given as goal
 

@@ -1,7 +1,7 @@
 use Rattle.std.proofs.Common.{not, ap}
 use Rattle.std.specs.List.{flat_map}
 use Rattle.farm_base.specs.declared.lease.Lease.{Lease}
-use Rattle.leaseindex.specs.Endings.{ends_lease, has_ended}
+use Rattle.holdings.specs.Endings.{ends_lease, has_ended}
 use Rattle.leases.proofs.ChangeLemmas.{filter_both}
 use Rattle.leases.proofs.slots.slots_ended.Goals as goal
 

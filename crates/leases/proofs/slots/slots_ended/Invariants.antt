@@ -1,6 +1,6 @@
 use Rattle.std.proofs.Common.{◌≡◌, ◌++◌, ◌&&◌, not, drop, filter}
 use Rattle.std.specs.List.{flat_map}
-use Rattle.leaseindex.specs.Endings.{ends_lease, has_ended}
+use Rattle.holdings.specs.Endings.{ends_lease, has_ended}
 use Rattle.leases.specs.Changes.{slots_ended}
 use Rattle.leases.proofs.slots.slots_ended.Given as goal
 

@@ -1,6 +1,6 @@
 use Rattle.std.proofs.Common.{◌≡◌, ◌<◌, ◌+◌, ◌++◌, ◌∷◌, [], ℕ, Bool, List, cond, drop, drop_of_length-le, filter, get_or, length, not, ◌||◌, ap, sym, ◌∙◌, arith, append-nil}
 use Rattle.protocol.specs.Machine.{Parked}
-use Rattle.leaseindex.proofs.MarkLemmas.{drop-item}
+use Rattle.holdings.proofs.PlaceLemmas.{drop-item}
 use Rattle.parked.specs.Over.{still_at}
 use Rattle.parked.specs.Waiting.{ends_ask}
 use Rattle.parked.proofs.WaitingWords.{ended-next, noted-append, noted-below, begins-noted}

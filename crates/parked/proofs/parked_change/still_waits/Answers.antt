@@ -1,7 +1,7 @@
 use Rattle.std.proofs.Common.{◌≡◌, ◌<◌, ◌+◌, ◌∷◌, ℕ, Bool, true, false, not, ◌&&◌, ◌||◌, eqb, List, drop, get_or, length, refl, ap, sym, ◌∙◌, arith}
 use Rattle.protocol.specs.Machine.{Parked}
 use Rattle.protocol.specs.Ledger.{is_parked}
-use Rattle.leaseindex.proofs.MarkLemmas.{drop-item}
+use Rattle.holdings.proofs.PlaceLemmas.{drop-item}
 use Rattle.parked.specs.Over.{still_at, later_over}
 use Rattle.parked.proofs.WaitingWords.{any_ask, any-still}
 use Rattle.parked.proofs.PassedWords.{other_default}

@@ -9,8 +9,7 @@ use Rattle.drafts.specs.Idle.{is_open, AreIdle}
 use Rattle.parked.specs.Over.{still_at}
 use Rattle.parked.specs.Queue.{asks_of}
 use Rattle.drafts.specs.Shown.{work}
-use Rattle.parked.specs.Spent.{WantsNoneOf}
-use Rattle.parked.specs.Noted.{WantsNone}
+use Rattle.parked.specs.Noted.{WantsNoneOf, WantsNone}
 use Rattle.drafts.proofs.IdleWords.{are-idle-open, unwanted-waits}
 use Rattle.parked.proofs.OverWords.{still-has}
 use Rattle.parked.proofs.WaitingWords.{still-none}

@@ -1,7 +1,7 @@
 use Rattle.std.proofs.Common.{◌≡◌, true, sym, subst}
 use Rattle.leases.specs.Leases.{Table}
 use Rattle.leases.specs.Table.{is_free}
-use Rattle.parked.specs.Spent.{is_private_spent}
+use Rattle.effects.specs.Spent.{is_private_spent}
 use Rattle.drafts.proofs.draft.Draft.note_wants.Goals as goal
 
 pub returns-clause-noted : goal.returns-clause-noted

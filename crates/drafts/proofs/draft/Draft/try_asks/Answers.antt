@@ -3,7 +3,7 @@ use Rattle.farm_base.specs.Wanted.{IsWants}
 use Rattle.protocol.specs.Farm.{farm_limits}
 use Rattle.protocol.specs.Machine.{Parked}
 use Rattle.protocol.specs.Ledger.{Work, try_all, waiting}
-use Rattle.leaseindex.proofs.MarkLemmas.{drop-item}
+use Rattle.holdings.proofs.PlaceLemmas.{drop-item}
 use Rattle.parked.specs.Over.{still_at}
 use Rattle.drafts.specs.Shown.{work}
 use Rattle.drafts.proofs.SoundWords.{sound-unless}

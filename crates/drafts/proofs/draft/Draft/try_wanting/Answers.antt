@@ -5,12 +5,12 @@ use Rattle.protocol.specs.Lists.{In}
 use Rattle.protocol.specs.Machine.{Parked}
 use Rattle.protocol.specs.Ledger.{Work, try_all, waiting, decision, is_free}
 use Rattle.events.specs.declared.answer.Decision.TheVariants.{Wait}
-use Rattle.leaseindex.proofs.MarkLemmas.{drop-item}
+use Rattle.holdings.proofs.PlaceLemmas.{drop-item}
 use Rattle.effects.specs.declared.effects.Effects.{Effects}
 use Rattle.effects.specs.declared.state.State.{State}
 use Rattle.drafts.specs.Idle.{AreIdle}
 use Rattle.effects.specs.Keeps.{held}
-use Rattle.parked.specs.Spent.{IsNoted}
+use Rattle.effects.specs.Spent.{IsNoted}
 use Rattle.parked.specs.Over.{Begins, AreRising, later_over, still_at}
 use Rattle.parked.specs.Queue.{asks_of}
 use Rattle.effects.specs.Shown.{work_of}

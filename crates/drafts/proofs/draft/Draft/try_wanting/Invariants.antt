@@ -8,7 +8,7 @@ use Rattle.parked.specs.Over.{Begins, AreRising, still_at}
 use Rattle.parked.specs.Queue.{asks_of}
 use Rattle.drafts.specs.Shown.{work}
 use Rattle.effects.specs.Sound.{IsSound}
-use Rattle.parked.specs.Spent.{IsNoted}
+use Rattle.effects.specs.Spent.{IsNoted}
 use Rattle.drafts.proofs.draft.Draft.try_wanting.Given as goal
 
 abbrev pub invariant-loop-place : goal.invariant-loop-place

@@ -1,10 +1,10 @@
 use Rattle.std.proofs.Common.{◌≡◌, List, [], ◌++◌, ℕ, ap, ◌∙◌, append-nil}
 use Rattle.protocol.specs.Machine.{Parked}
 use Rattle.protocol.specs.Ledger.{Ledger}
-use Rattle.parked.specs.Changes.{changed}
-use Rattle.parked.specs.Leases.{Table}
+use Rattle.leases.specs.Changes.{changed}
+use Rattle.leases.specs.Leases.{Table}
 use Rattle.holdings.specs.Leases.{among}
-use Rattle.parked.proofs.ChangeLemmas.{changed-none}
+use Rattle.leases.proofs.ChangeLemmas.{changed-none}
 use Rattle.effects.specs.Held.{ledger}
 use Rattle.effects.specs.Keeps.{held}
 use Rattle.parked.specs.Over.{still_waiting}

@@ -2,10 +2,10 @@ use Rattle.std.proofs.Common.{◌≡◌, true, ap, sym, ◌∙◌, subst}
 use Rattle.protocol.specs.Lists.{In}
 use Rattle.protocol.specs.Names.{FolderName, Slot, slot_eq}
 use Rattle.protocol.proofs.Base.{from_any, slot_eq_is}
-use Rattle.parked.specs.Changes.{changed}
-use Rattle.parked.specs.Leases.{Table}
-use Rattle.parked.specs.Table.{is_free}
-use Rattle.parked.specs.Spent.{is_private_spent}
+use Rattle.leases.specs.Changes.{changed}
+use Rattle.leases.specs.Leases.{Table}
+use Rattle.leases.specs.Table.{is_free}
+use Rattle.effects.specs.Spent.{is_private_spent}
 use Rattle.holdings.specs.Leases.{among}
 use Rattle.effects.proofs.SpentWords.{noted-changed, among-itself}
 use Rattle.effects.proofs.change.Change.spent.Goals as goal

@@ -2,13 +2,13 @@ use Rattle.std.proofs.Common.{List, [], ℕ, All, get_or, length, sym, subst, in
 use Rattle.protocol.specs.Machine.{Parked}
 use Rattle.protocol.specs.Lists.{In}
 use Rattle.protocol.proofs.Base.{all_in, in_append}
-use Rattle.parked.specs.Leases.{Table}
-use Rattle.parked.specs.Table.{is_free}
+use Rattle.leases.specs.Leases.{Table}
+use Rattle.leases.specs.Table.{is_free}
 use Rattle.effects.specs.Keeps.{held}
 use Rattle.parked.specs.Over.{still_waiting}
 use Rattle.parked.specs.Queue.{asks_of}
 use Rattle.effects.specs.Shown.{table_after}
-use Rattle.parked.specs.Spent.{IsNoted}
+use Rattle.effects.specs.Spent.{IsNoted}
 use Rattle.parked.proofs.NewestWords.{all-still}
 use Rattle.parked.proofs.OverWords.{still-has}
 use Rattle.parked.proofs.WaitingWords.{still-none}

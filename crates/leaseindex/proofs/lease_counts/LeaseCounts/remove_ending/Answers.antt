@@ -1,7 +1,7 @@
 use Rattle.std.proofs.Common.{◌≡◌, ◌+◌, ◌≤◌, ◌++◌, ◌∷◌, [], Bool, cond, not, List, filter, take, drop, append_assoc, append-nil, ap, sym, ◌∙◌, subst, arith}
 use Rattle.farm_base.specs.declared.lease.Lease.{Lease}
 use Rattle.leaseindex.specs.Counts.{count_room, AreCounted}
-use Rattle.leaseindex.specs.Endings.{ends_lease}
+use Rattle.holdings.specs.Endings.{ends_lease}
 use Rattle.leaseindex.specs.declared.lease_counts.LeaseCounts.{LeaseCounts}
 use Rattle.leaseindex.proofs.CountLemmas.{kept_next, gone_next, kept_all}
 use Rattle.leaseindex.proofs.lease_counts.LeaseCounts.remove_ending.Goals as goal

@@ -1,7 +1,7 @@
 use Rattle.std.proofs.Common.{◌≤◌, ◌++◌, List, not, filter, take, drop}
 use Rattle.farm_base.specs.declared.lease.Lease.{Lease}
 use Rattle.leaseindex.specs.Counts.{count_room, AreCounted}
-use Rattle.leaseindex.specs.Endings.{ends_lease}
+use Rattle.holdings.specs.Endings.{ends_lease}
 use Rattle.leaseindex.proofs.lease_counts.LeaseCounts.remove_ending.Given as goal
 
 abbrev pub invariant-loop-lease : goal.invariant-loop-lease

@@ -1,7 +1,7 @@
 use Rattle.std.proofs.Common.{◌≡◌, [], List, length, sym, ◌∙◌, subst, eqb-true}
 use Rattle.std.proofs.lemmas.List.{nil_from_length}
 use Rattle.farm_base.specs.declared.lease.Lease.{Lease}
-use Rattle.leaseindex.specs.Endings.{ends_lease}
+use Rattle.holdings.specs.Endings.{ends_lease}
 use Rattle.leaseindex.specs.Counts.{AreLast}
 use Rattle.leaseindex.proofs.LastLemmas.{last-none}
 use Rattle.leaseindex.proofs.live_leases.LiveLeases.end_all.Goals as goal

@@ -1,5 +1,5 @@
 use Rattle.std.proofs.Common.{◌≡◌, ◌≤◌, not, drop, filter}
-use Rattle.leaseindex.specs.Endings.{has_ended}
+use Rattle.holdings.specs.Endings.{has_ended}
 use Rattle.leaseindex.proofs.live_leases.LiveLeases.end_each.Given as goal
 
 abbrev pub invariant-loop-ending : goal.invariant-loop-ending

@@ -1,7 +1,7 @@
 use Rattle.std.proofs.Common.{◌≡◌, List, Bool, not, ◌&&◌, filter, ap, subst, sym, ◌∙◌}
 use Rattle.std.specs.Prelude.{AllPairs}
 use Rattle.farm_base.specs.declared.lease.Lease.{Lease}
-use Rattle.leaseindex.specs.Endings.{ends_lease}
+use Rattle.holdings.specs.Endings.{ends_lease}
 use Rattle.leaseindex.specs.Counts.{AreCounted, AreLast}
 use Rattle.leaseindex.specs.Index.{ticket_at, AreIndexed}
 use Rattle.leaseindex.specs.Instances.{is_taken, AreTaken}

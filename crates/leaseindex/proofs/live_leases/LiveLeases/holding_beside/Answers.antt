@@ -1,7 +1,7 @@
 use Rattle.std.proofs.Common.{◌∙◌, ap}
 use Rattle.protocol.specs.Names.{only_slot}
 use Rattle.protocol.specs.Ledger.{has_slot}
-use Rattle.leaseindex.specs.Endings.{standing}
+use Rattle.holdings.specs.Endings.{standing}
 use Rattle.leaseindex.proofs.FindLemmas.{found_standing}
 use Rattle.leaseindex.proofs.IndexLemmas.{folder_once}
 use Rattle.leaseindex.proofs.live_leases.LiveLeases.holding_beside.Goals as goal

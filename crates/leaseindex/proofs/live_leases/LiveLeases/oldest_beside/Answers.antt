@@ -2,7 +2,7 @@ use Rattle.std.proofs.Common.{◌≡◌, ◌+◌, ◌∙◌, not, List, drop, fi
 use Rattle.std.proofs.lemmas.List.Kept.{AllPairs-filter}
 use Rattle.std.specs.Option.{option_copied}
 use Rattle.farm_base.specs.declared.lease.Lease.{Lease}
-use Rattle.leaseindex.specs.Endings.{has_ended}
+use Rattle.holdings.specs.Endings.{has_ended}
 use Rattle.holdings.specs.Leases.{IsBefore}
 use Rattle.leaseindex.specs.Live.{older}
 use Rattle.leaseindex.proofs.OldestLemmas.{oldest, oldest_next, oldest_past, oldest_end}

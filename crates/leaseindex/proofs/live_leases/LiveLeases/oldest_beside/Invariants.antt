@@ -1,7 +1,7 @@
 use Rattle.std.proofs.Common.{◌≡◌, not, drop, filter}
 use Rattle.std.specs.List.{find}
 use Rattle.std.specs.Option.{option_copied}
-use Rattle.leaseindex.specs.Endings.{has_ended}
+use Rattle.holdings.specs.Endings.{has_ended}
 use Rattle.leaseindex.specs.Live.{older, holds_some}
 use Rattle.holdings.specs.Leases.{takes}
 use Rattle.leaseindex.proofs.live_leases.LiveLeases.oldest_beside.Given as goal

@@ -1,7 +1,7 @@
 use Rattle.std.proofs.Common.{Bool, ◌&&◌, not, sym, ◌∙◌, ap, refl, arith}
 use Rattle.farm_base.specs.declared.lease.Lease.{Lease}
 use Rattle.protocol.specs.Names.{Slot}
-use Rattle.leaseindex.specs.Endings.{has_ended}
+use Rattle.holdings.specs.Endings.{has_ended}
 use Rattle.leaseindex.proofs.TakenLemmas.{any_with, some_failing, beside_next, beside_end}
 use Rattle.leaseindex.proofs.live_leases.LiveLeases.taken_beside.Goals as goal
 

@@ -1,6 +1,6 @@
 use Rattle.std.proofs.Common.{◌≡◌, ℕ, ◌≤◌, ◌&&◌, not, drop, filter}
 use Rattle.protocol.specs.Ledger.{some_lease}
-use Rattle.leaseindex.specs.Endings.{has_ended}
+use Rattle.holdings.specs.Endings.{has_ended}
 use Rattle.leaseindex.specs.Instances.{has}
 use Rattle.leaseindex.proofs.TakenLemmas.{any_with}
 use Rattle.leaseindex.proofs.live_leases.LiveLeases.taken_beside.Given as goal

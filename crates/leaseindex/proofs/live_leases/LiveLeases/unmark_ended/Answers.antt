@@ -4,8 +4,8 @@ use Rattle.std.specs.Option.{option_copied}
 use Rattle.farm_base.specs.declared.lease.Lease.{Lease}
 use Rattle.protocol.specs.Names.{Slot}
 use Rattle.protocol.specs.Ledger.{has_slot, has_ticket}
-use Rattle.leaseindex.specs.declared.ending.Ending.{Ending}
-use Rattle.leaseindex.specs.Endings.{ends_lease}
+use Rattle.holdings.specs.declared.ending.Ending.{Ending}
+use Rattle.holdings.specs.Endings.{ends_lease}
 use Rattle.leaseindex.specs.Instances.{has}
 use Rattle.leaseindex.proofs.FindLemmas.{ticket_once}
 use Rattle.leaseindex.proofs.LastLemmas.{last-with}

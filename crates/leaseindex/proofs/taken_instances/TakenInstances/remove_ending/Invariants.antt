@@ -1,6 +1,6 @@
 use Rattle.std.proofs.Common.{◌≡◌, ℕ, ◌≤◌, ◌&&◌, not, drop}
 use Rattle.protocol.specs.Names.{FolderName}
-use Rattle.leaseindex.specs.Endings.{ends_lease}
+use Rattle.holdings.specs.Endings.{ends_lease}
 use Rattle.leaseindex.specs.Instances.{is_taken, folder_room}
 use Rattle.leaseindex.proofs.TakenLemmas.{any_with}
 use Rattle.leaseindex.proofs.taken_instances.TakenInstances.remove_ending.Given as goal

@@ -2,7 +2,7 @@ use Rattle.std.proofs.Common.{List, ◌++◌, ◌∷◌, [], not, filter, ap, �
 use Rattle.protocol.specs.Names.{Slot}
 use Rattle.farm_base.specs.declared.lease.Lease.{Lease}
 use Rattle.leases.specs.Changes.{Change, changed}
-use Rattle.leaseindex.specs.Endings.{ends_lease}
+use Rattle.holdings.specs.Endings.{ends_lease}
 use Rattle.leases.specs.Leases.{Table}
 use Rattle.leases.proofs.ChangeLemmas.{live-ended, sound-ended}
 use Rattle.leases.proofs.changes.TableChange.end_all.Goals as goal

@@ -4,8 +4,8 @@ use Rattle.std.specs.Prelude.{IfOk}
 use Rattle.farm_base.specs.declared.lease.Lease.{Lease}
 use Rattle.protocol.specs.Names.{Ticket}
 use Rattle.leases.specs.Changes.{Change, saved_tickets, ticket_of_saved}
-use Rattle.leaseindex.specs.declared.ending.Ending.{Ending}
-use Rattle.leaseindex.specs.declared.ending.Ending.TheVariants as ending
+use Rattle.holdings.specs.declared.ending.Ending.{Ending}
+use Rattle.holdings.specs.declared.ending.Ending.TheVariants as ending
 use Rattle.leases.proofs.SavedLemmas.{saved_tickets-none, saved_tickets-one, saved_tickets-last}
 use Rattle.leases.proofs.changes.TableChange.saved_ended.Goals as goal
 

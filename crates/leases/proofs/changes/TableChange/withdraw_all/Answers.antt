@@ -1,6 +1,6 @@
 use Rattle.std.proofs.Common.{◌≡◌, ◌++◌, ◌∷◌, [], not, filter, ap, ◌∙◌}
 use Rattle.leases.specs.Changes.{Change}
-use Rattle.leaseindex.specs.Endings.{ends_lease}
+use Rattle.holdings.specs.Endings.{ends_lease}
 use Rattle.leases.proofs.ChangeLemmas.{live-ended, sound-ended}
 use Rattle.leases.proofs.changes.TableChange.withdraw_all.Goals as goal
 

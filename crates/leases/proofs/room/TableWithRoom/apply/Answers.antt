@@ -1,8 +1,8 @@
 use Rattle.std.proofs.Common.{◌≡◌, ◌++◌, Bool, List, not, length, filter, ap, subst, sym, ◌∙◌, arith}
 use Rattle.farm_base.specs.declared.lease.Lease.{Lease}
 use Rattle.protocol.specs.Names.{Slot}
-use Rattle.leaseindex.specs.declared.ending.Ending.{Ending}
-use Rattle.leaseindex.specs.Endings.{has_ended}
+use Rattle.holdings.specs.declared.ending.Ending.{Ending}
+use Rattle.holdings.specs.Endings.{has_ended}
 use Rattle.leases.specs.Changes.{RoomyTable}
 use Rattle.holdings.specs.Leases.{AreLeases}
 use Rattle.leases.proofs.ChangeLemmas.{length-kept}

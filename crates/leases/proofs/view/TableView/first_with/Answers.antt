@@ -5,7 +5,7 @@ use Rattle.std.proofs.lemmas.Iterator.Search.{find_from_yields_List}
 use Rattle.std.specs.List.{find}
 use Rattle.std.specs.Option.{option_copied, option_or}
 use Rattle.farm_base.specs.declared.lease.Lease.{Lease}
-use Rattle.leaseindex.specs.Endings.{has_ended}
+use Rattle.holdings.specs.Endings.{has_ended}
 use Rattle.leases.specs.Leases.{Table}
 use Rattle.leaseindex.specs.Live.{holds_some}
 use Rattle.holdings.specs.Leases.{takes}

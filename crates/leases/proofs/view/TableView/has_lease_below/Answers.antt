@@ -5,7 +5,7 @@ use Rattle.std.proofs.lemmas.Iterator.Consumers.{YieldsList-from_filter, YieldsL
 use Rattle.std.proofs.lemmas.Iterator.Search.{any_from_yields_List}
 use Rattle.std.specs.Prelude.{nat_lt}
 use Rattle.protocol.specs.Ledger.{is_at, is_older}
-use Rattle.leaseindex.specs.Endings.{has_ended}
+use Rattle.holdings.specs.Endings.{has_ended}
 use Rattle.leases.specs.Leases.{Table}
 use Rattle.leaseindex.proofs.LastLemmas.{last-weaker, last-any}
 use Rattle.leases.proofs.view.TableView.has_lease_below.Goals as goal

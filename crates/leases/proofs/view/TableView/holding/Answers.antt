@@ -7,7 +7,7 @@ use Rattle.std.specs.Option.{option_copied, option_or}
 use Rattle.farm_base.specs.declared.lease.Lease.{Lease}
 use Rattle.protocol.specs.Names.{only_slot}
 use Rattle.protocol.specs.Ledger.{has_slot}
-use Rattle.leaseindex.specs.Endings.{has_ended}
+use Rattle.holdings.specs.Endings.{has_ended}
 use Rattle.leases.specs.Leases.{Table}
 use Rattle.leaseindex.proofs.FindLemmas.{copied_or}
 use Rattle.leases.proofs.view.TableView.holding.Goals as goal

@@ -5,7 +5,7 @@ use Rattle.std.specs.List.{find}
 use Rattle.std.specs.Option.{option_copied, option_or}
 use Rattle.farm_base.specs.declared.lease.Lease.{Lease}
 use Rattle.protocol.specs.Ledger.{has_ticket}
-use Rattle.leaseindex.specs.Endings.{standing}
+use Rattle.holdings.specs.Endings.{standing}
 use Rattle.leases.specs.Leases.{Table}
 use Rattle.leaseindex.proofs.FindLemmas.{copied_or, found_over, ticket_once}
 use Rattle.leases.proofs.view.TableView.lease.Goals as goal

@@ -2,7 +2,7 @@ use Rattle.std.proofs.Common.{List, ◌++◌, not, filter, ap, ◌∙◌}
 use Rattle.farm_base.specs.declared.lease.Lease.{Lease}
 use Rattle.protocol.specs.Names.{Slot}
 use Rattle.protocol.specs.Ledger.{is_at}
-use Rattle.leaseindex.specs.Endings.{has_ended}
+use Rattle.holdings.specs.Endings.{has_ended}
 use Rattle.leases.specs.Leases.{Table}
 use Rattle.leases.specs.Table.{all_private}
 use Rattle.leases.proofs.ChangeLemmas.{private_at-both}

@@ -2,7 +2,7 @@ use Rattle.std.proofs.Common.{List, Bool, ◌++◌, not, filter, ap, ◌∙◌}
 use Rattle.farm_base.specs.declared.lease.Lease.{Lease}
 use Rattle.protocol.specs.Names.{Slot}
 use Rattle.std.specs.List.{flat_map}
-use Rattle.leaseindex.specs.Endings.{ends_lease, has_ended}
+use Rattle.holdings.specs.Endings.{ends_lease, has_ended}
 use Rattle.leases.specs.Changes.{slots_ended}
 use Rattle.leases.specs.Leases.{Table}
 use Rattle.leases.proofs.ChangeLemmas.{slots_ended-both}

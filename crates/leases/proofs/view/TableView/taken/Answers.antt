@@ -2,7 +2,7 @@ use Rattle.std.proofs.Common.{Bool, ◌||◌, not, List, filter, ◌∙◌, ap}
 use Rattle.farm_base.specs.declared.lease.Lease.{Lease}
 use Rattle.protocol.specs.Names.{Slot}
 use Rattle.protocol.specs.Ledger.{some_lease}
-use Rattle.leaseindex.specs.Endings.{has_ended}
+use Rattle.holdings.specs.Endings.{has_ended}
 use Rattle.leases.specs.Leases.{Table}
 use Rattle.holdings.specs.Leases.{among}
 use Rattle.leases.specs.Table.{is_free}

@@ -1,6 +1,6 @@
 use Rattle.std.proofs.Common.{List, ◌++◌, not, filter, ap, ◌∙◌}
 use Rattle.farm_base.specs.declared.lease.Lease.{Lease}
-use Rattle.leaseindex.specs.Endings.{has_ended}
+use Rattle.holdings.specs.Endings.{has_ended}
 use Rattle.leases.specs.Leases.{Table}
 use Rattle.leases.proofs.view.TableView.to_parts.Goals as goal
 

@@ -6,7 +6,7 @@ use Rattle.events.specs.declared.answer.CoordRefusal.TheVariants.{SaveFault, Out
 use Rattle.saverecord.specs.Logs.{Holds}
 use Rattle.effects.specs.declared.state.State.{State}
 use Rattle.effects.specs.declared.effects.Effects.{Effects}
-use Rattle.effects.specs.SpentFolders.{SpentFolders}
+use Rattle.effects.specs.declared.spent_folders.SpentFolders.{SpentFolders}
 use Rattle.effects.specs.Held.{Held, line_at, ledger}
 use Rattle.effects.specs.Keeps.{held, IsKeepable}
 use Rattle.ledger.specs.Seen.{IsKeeping}

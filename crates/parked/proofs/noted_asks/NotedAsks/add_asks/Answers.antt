@@ -1,6 +1,6 @@
 use Rattle.std.proofs.Common.{◌≡◌, ◌+◌, ◌∷◌, [], ℕ, List, drop, drop_of_length-le, ap, sym, ◌∙◌, subst, arith}
 use Rattle.protocol.specs.Machine.{Parked}
-use Rattle.leaseindex.proofs.MarkLemmas.{drop-item}
+use Rattle.holdings.proofs.PlaceLemmas.{drop-item}
 use Rattle.parked.specs.Numbers.{numbers_from, number_after}
 use Rattle.parked.specs.Noted.{IsIndexed, AreIndexed}
 use Rattle.parked.specs.declared.noted_asks.NotedAsks.{NotedAsks}

@@ -1,6 +1,6 @@
 use Rattle.std.proofs.Common.{refl, ◌∙◌}
 use Rattle.indexmap.specs.IndexMap.{get}
-use Rattle.leaseindex.specs.Counts.{node_eq}
+use Rattle.holdings.specs.Lives.{node_eq}
 use Rattle.parked.specs.declared.noted_asks.NotedAsks.{NotedAsks}
 use Rattle.parked.proofs.NotedWords.{keeps-node, none-kept}
 use Rattle.parked.proofs.noted_asks.NotedAsks.add_node.Goals as goal

@@ -1,6 +1,6 @@
 use Rattle.std.proofs.Common.{Bool, ◌&&◌, get_or, ap, ◌∙◌}
 use Rattle.std.specs.Prelude.{nat_lt}
-use Rattle.leaseindex.specs.declared.ending.Ending.{Ending}
+use Rattle.holdings.specs.declared.ending.Ending.{Ending}
 use Rattle.protocol.specs.Machine.{Parked}
 use Rattle.parked.specs.Queue.{asks_of}
 use Rattle.parked.specs.Waiting.{ends_ask}

@@ -1,8 +1,9 @@
 use Rattle.std.proofs.Common.{◌≡◌, ℕ, ◌<◌, true, get_or}
 use Rattle.protocol.specs.Names.{FolderName, Want}
 use Rattle.leases.specs.Table.{is_free}
-use Rattle.parked.specs.Spent.{is_private_spent, is_noted}
-use Rattle.parked.proofs.spent_folders.SpentFolders.note_wants.Given as goal
+use Rattle.parked.specs.Noted.{is_noted}
+use Rattle.effects.specs.Spent.{is_private_spent}
+use Rattle.effects.proofs.spent_folders.SpentFolders.note_wants.Given as goal
 
 abbrev pub invariant-loop-want : goal.invariant-loop-want
 invariant-loop-want l = record {

@@ -1,9 +1,10 @@
 use Rattle.std.proofs.Common.{◌≡◌, true, arith}
 use Rattle.protocol.specs.Names.{Want}
 use Rattle.leases.specs.Table.{is_free}
-use Rattle.parked.specs.Spent.{is_private_spent, is_noted}
+use Rattle.parked.specs.Noted.{is_noted}
+use Rattle.effects.specs.Spent.{is_private_spent}
 use Rattle.parked.proofs.NotedWords.{each_in}
-use Rattle.parked.proofs.spent_folders.SpentFolders.note_wants.Goals as goal
+use Rattle.effects.proofs.spent_folders.SpentFolders.note_wants.Goals as goal
 
 pub returns-clause-noted : goal.returns-clause-noted
 returns-clause-noted c w i =

@@ -1,9 +1,9 @@
 use Rattle.std.proofs.Common.{arith}
 use Rattle.protocol.specs.Machine.{Parked}
 use Rattle.leases.specs.Table.{is_free}
-use Rattle.parked.specs.Spent.{IsNoted}
+use Rattle.effects.specs.Spent.{IsNoted}
 use Rattle.parked.proofs.NotedWords.{each_in}
-use Rattle.parked.proofs.spent_folders.SpentFolders.note_asks.Goals as goal
+use Rattle.effects.proofs.spent_folders.SpentFolders.note_asks.Goals as goal
 
 pub returns-clause-noted : goal.returns-clause-noted
 returns-clause-noted c p i =

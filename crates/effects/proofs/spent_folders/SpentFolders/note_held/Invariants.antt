@@ -2,8 +2,9 @@ use Rattle.std.proofs.Common.{◌≡◌, ℕ, ◌<◌, true, get_or}
 use Rattle.std.specs.Prelude.{Bool}
 use Rattle.protocol.specs.Names.{FolderName, Slot}
 use Rattle.leases.specs.Table.{is_free}
-use Rattle.parked.specs.Spent.{is_private_spent, is_noted}
-use Rattle.parked.proofs.spent_folders.SpentFolders.note_held.Given as goal
+use Rattle.parked.specs.Noted.{is_noted}
+use Rattle.effects.specs.Spent.{is_private_spent}
+use Rattle.effects.proofs.spent_folders.SpentFolders.note_held.Given as goal
 
 abbrev pub invariant-loop-held : goal.invariant-loop-held
 invariant-loop-held l = record {

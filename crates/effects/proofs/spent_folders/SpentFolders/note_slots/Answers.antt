@@ -2,12 +2,13 @@ use Rattle.std.proofs.Common.{◌≡◌, ◌-◌, ℕ, List, true, get_or, ap, s
 use Rattle.std.proofs.lemmas.Bool.{cases_lt}
 use Rattle.protocol.specs.Names.{FolderName, Slot}
 use Rattle.leases.specs.Table.{is_free}
-use Rattle.parked.specs.Spent.{is_private_spent, is_noted}
-use Rattle.parked.specs.declared.spent_folders.SpentFolders.{SpentFolders}
+use Rattle.parked.specs.Noted.{is_noted}
+use Rattle.effects.specs.Spent.{is_private_spent}
+use Rattle.effects.specs.declared.spent_folders.SpentFolders.{SpentFolders}
 use Rattle.parked.proofs.PassedWords.{other_default}
 use Rattle.parked.proofs.NotedWords.{each_in}
-use Rattle.parked.proofs.spent_folders.SpentFolders.note_slots.Goals.{then-not-is_repeated+in_ok-note, else-not-is_repeated}
-use Rattle.parked.proofs.spent_folders.SpentFolders.note_slots.Goals as goal
+use Rattle.effects.proofs.spent_folders.SpentFolders.note_slots.Goals.{then-not-is_repeated+in_ok-note, else-not-is_repeated}
+use Rattle.effects.proofs.spent_folders.SpentFolders.note_slots.Goals as goal
 
 pub loop-place-preserved : goal.loop-place-preserved
 loop-place-preserved c =

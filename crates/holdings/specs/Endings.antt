@@ -4,8 +4,8 @@ use Rattle.std.specs.List.{list_any}
 use Rattle.farm_base.specs.declared.lease.Lease.{Lease}
 use Rattle.protocol.specs.Names.{Slot}
 use Rattle.protocol.specs.Ledger.{has_slot, has_ticket, is_at, is_older}
-use Rattle.leaseindex.specs.declared.ending.Ending.{Ending}
-use Rattle.leaseindex.specs.declared.ending.Ending.TheVariants as ending
+use Rattle.holdings.specs.declared.ending.Ending.{Ending}
+use Rattle.holdings.specs.declared.ending.Ending.TheVariants as ending
 
 -- the lease is that of the ticket, of the node, or of a life of the node below this one
 abbrev pub ends_lease : Ending → Lease → Bool

@@ -1,20 +1,15 @@
 -- PRIVATE folders of which no instance is free.
-use Rattle.std.specs.Prelude.{◌≡◌, Bool, true, false, ◌&&◌, List}
-use Rattle.std.specs.List.{list_any}
-use Rattle.names.specs.Folders.{folder_eq}
+use Rattle.std.specs.Prelude.{◌≡◌, Bool, true, ◌&&◌, List}
 use Rattle.protocol.specs.Lists.{In}
 use Rattle.protocol.specs.Names.{FolderName, Slot, Want, is_private}
 use Rattle.protocol.specs.Machine.{Parked}
 use Rattle.protocol.specs.Ledger.{Ledger, is_free}
 use Rattle.leases.specs.Table.{is_spent}
+use Rattle.parked.specs.Noted.{is_noted}
 
 -- the folder is PRIVATE, and no instance of it is free
 abbrev pub is_private_spent : (Slot → Bool) → FolderName → Bool
 is_private_spent free f = is_private f.mode && is_spent free f
-
--- the folder is among these
-abbrev pub is_noted : List FolderName → FolderName → Bool
-is_noted noted f = list_any (λ g. folder_eq g f) noted
 
 -- each such folder that the ask wants is among these
 abbrev pub IsNoted : List FolderName → (Slot → Bool) → Parked → Type 0
@@ -24,7 +19,3 @@ IsNoted noted free p = (w : Want) → In w p.wants → is_private_spent free w.f
 -- so it is with each parked ask
 abbrev pub AreNoted : List FolderName → Ledger → Type 0
 AreNoted noted q = (p : Parked) → In p q.parked → IsNoted noted (is_free q) p
-
--- the ask wants none of these folders
-abbrev pub WantsNoneOf : List FolderName → Parked → Type 0
-WantsNoneOf folders p = (w : Want) → In w p.wants → is_noted folders w.folder ≡ false

@@ -4,8 +4,8 @@ use Rattle.names.specs.Folders.{folder_eq}
 use Rattle.names.proofs.CompareLaws.{folder_eq-itself}
 use Rattle.protocol.specs.Names.{FolderName}
 use Rattle.protocol.proofs.Base.{any_in, in_right}
-use Rattle.parked.specs.Spent.{is_noted}
-use Rattle.parked.proofs.spent_folders.SpentFolders.note.Goals as goal
+use Rattle.parked.specs.Noted.{is_noted}
+use Rattle.effects.proofs.spent_folders.SpentFolders.note.Goals as goal
 
 pub returns-clause-noted : goal.returns-clause-noted
 returns-clause-noted c = λ spent.

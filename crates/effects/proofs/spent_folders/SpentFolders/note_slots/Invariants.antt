@@ -1,8 +1,9 @@
 use Rattle.std.proofs.Common.{◌≡◌, ◌≤◌, ◌-◌, ℕ, ◌<◌, true, get_or, length}
 use Rattle.protocol.specs.Names.{FolderName, Slot}
 use Rattle.leases.specs.Table.{is_free}
-use Rattle.parked.specs.Spent.{is_private_spent, is_noted}
-use Rattle.parked.proofs.spent_folders.SpentFolders.note_slots.Given as goal
+use Rattle.parked.specs.Noted.{is_noted}
+use Rattle.effects.specs.Spent.{is_private_spent}
+use Rattle.effects.proofs.spent_folders.SpentFolders.note_slots.Given as goal
 
 abbrev pub invariant-loop-place : goal.invariant-loop-place
 invariant-loop-place l = record {

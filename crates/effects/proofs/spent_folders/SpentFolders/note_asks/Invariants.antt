@@ -2,8 +2,9 @@ use Rattle.std.proofs.Common.{◌≡◌, ℕ, ◌<◌, true, get_or}
 use Rattle.protocol.specs.Names.{FolderName}
 use Rattle.protocol.specs.Machine.{Parked}
 use Rattle.leases.specs.Table.{is_free}
-use Rattle.parked.specs.Spent.{is_noted, IsNoted}
-use Rattle.parked.proofs.spent_folders.SpentFolders.note_asks.Given as goal
+use Rattle.parked.specs.Noted.{is_noted}
+use Rattle.effects.specs.Spent.{IsNoted}
+use Rattle.effects.proofs.spent_folders.SpentFolders.note_asks.Given as goal
 
 abbrev pub invariant-loop-p : goal.invariant-loop-p
 invariant-loop-p l = record {

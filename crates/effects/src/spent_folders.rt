@@ -5,7 +5,8 @@ ghost use Rattle.protocol.specs.Names.{FolderName, Slot, Want};
 ghost use Rattle.protocol.specs.Machine.{Parked};
 ghost use Rattle.protocol.specs.Ledger.{Lease};
 ghost use Rattle.leases.specs.Table.{is_free};
-ghost use Rattle.parked.specs.Spent.{is_private_spent, is_noted, IsNoted};
+ghost use Rattle.parked.specs.Noted.{is_noted};
+ghost use Rattle.effects.specs.Spent.{is_private_spent, IsNoted};
 
 use farm_base::{Copied, FolderName, Lease, Mode, Parked, Slot, Want};
 use leases::TableView;

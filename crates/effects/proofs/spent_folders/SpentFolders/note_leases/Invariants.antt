@@ -4,8 +4,9 @@ use Rattle.protocol.specs.Lists.{In}
 use Rattle.protocol.specs.Names.{FolderName, Slot}
 use Rattle.protocol.specs.Ledger.{Lease}
 use Rattle.leases.specs.Table.{is_free}
-use Rattle.parked.specs.Spent.{is_private_spent, is_noted}
-use Rattle.parked.proofs.spent_folders.SpentFolders.note_leases.Given as goal
+use Rattle.parked.specs.Noted.{is_noted}
+use Rattle.effects.specs.Spent.{is_private_spent}
+use Rattle.effects.proofs.spent_folders.SpentFolders.note_leases.Given as goal
 
 abbrev pub invariant-loop-lease : goal.invariant-loop-lease
 invariant-loop-lease l = record {
