@@ -60,6 +60,7 @@ pub record IsJobOf (file : File) (job : NodeId × KeyedParts) : Type 0 where
 pub record IsRun (setup : Setup) (names : List (List ℕ)) (jobs : List (NodeId × KeyedParts)) (nodes : List NodeId)
     (had : List (List Call)) (text failed : List ℕ) : Type 0 where
   pub events : List Event
+  -- those of each executor at the end
   pub calls : List (List Call)
   pub answers : List Answer
   pub grew : AllZip Grew had calls
