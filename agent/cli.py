@@ -16,7 +16,7 @@ import sys
 import time
 from typing import Any, Callable, Iterator, Sequence
 
-from agent import client
+from agent.service import client
 from agent.faults import FAULT, LOST, MISSING, USAGE, FarmFault, UsageFault, sentence, show, tell
 from agent.words import version_of, want_of
 
@@ -153,7 +153,7 @@ def _asking_words(verbs: Any) -> None:
 
 
 def _serve(args: argparse.Namespace, coordinator: bool, nodes: list[int]) -> int:
-    from agent.serving import Wanted, serve
+    from agent.service.serving import Wanted, serve
 
     return serve(Wanted(
         args.home, coordinator, nodes, args.nodes, getattr(args, "broker", None), args.contents,
@@ -299,7 +299,7 @@ def do_run(args: argparse.Namespace) -> int:
 
 
 def do_build(args: argparse.Namespace) -> int:
-    from agent.builds import PASSED, BuildAsked
+    from agent.build.builds import PASSED, BuildAsked
 
     given = [word.partition("=") for word in args.build_arg]
     asked = BuildAsked(
@@ -353,7 +353,7 @@ def do_status(args: argparse.Namespace) -> int:
 
 
 def do_web(args: argparse.Namespace) -> int:
-    from agent import web
+    from agent.web import web
 
     def read() -> Any:
         asked = client.ask(f"{args.home}/coordinator.sock", {"do": "status", "last": LAST}, shows=False)
@@ -375,8 +375,9 @@ def do_log(args: argparse.Namespace) -> int:
 
 
 def do_get(args: argparse.Namespace) -> int:
-    from agent import serving, trees
-    from agent.hints import Hints
+    from agent.folders import trees
+    from agent.service import serving
+    from agent.transport.hints import Hints
 
     folder, number = version_of(args.folder)
     told = ask_coordinator(args, {"do": "log", "folder": folder})
@@ -413,10 +414,10 @@ def do_prune(args: argparse.Namespace) -> int:
 
 def do_gc(args: argparse.Namespace) -> int:
     """On the coordinator's machine all that the farm keeps; on another one what its own nodes have."""
-    from agent import serving
-    from agent.hints import Hints
-    from agent.redis_store import RedisStore
-    from agent.store import FolderStore
+    from agent.service import serving
+    from agent.transport.hints import Hints
+    from agent.store.redis import RedisStore
+    from agent.store.folder import FolderStore
 
     if args.keep < 1:
         raise UsageFault("the last version of a folder is always kept: --keep is at least 1")

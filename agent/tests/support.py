@@ -16,8 +16,10 @@ import unittest
 from typing import Callable, Iterator
 from unittest import mock
 
-from agent import cli, trees
-from agent.store import Store
+from agent import cli
+
+from agent.folders import trees
+from agent.store.folder import Store
 
 HERE = os.path.dirname(os.path.abspath(__file__))
 TOP = os.path.dirname(os.path.dirname(HERE))

@@ -10,8 +10,8 @@ import subprocess
 import unittest
 from unittest import mock
 
-from agent.builder import Buildah, Image, check_tag
-from agent.executions import can_have_namespaces
+from agent.build.builder import Buildah, Image, check_tag
+from agent.runs.executions import can_have_namespaces
 from agent.faults import FarmFault
 
 from agent.tests import support

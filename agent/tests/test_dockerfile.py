@@ -4,8 +4,8 @@ from __future__ import annotations
 import re
 import unittest
 
-from agent.dockerfile import Base, Plan, plan
-from agent.dockertext import BadDockerfile, instructions
+from agent.build.dockerfile import Base, Plan, plan
+from agent.build.dockertext import BadDockerfile, instructions
 
 T = "--mount=type=cache"
 PLACE = re.compile(r"id=farm-[0-9a-f]{32},target=/")

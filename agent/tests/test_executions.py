@@ -9,7 +9,7 @@ import sys
 import time
 import unittest
 
-from agent.executions import Execution, Executions, can_have_namespaces
+from agent.runs.executions import Execution, Executions, can_have_namespaces
 
 from agent.tests import support
 

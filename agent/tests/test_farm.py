@@ -16,19 +16,19 @@ import unittest
 from typing import Any
 from unittest import mock
 
-from agent.caller import Patience
-from agent.coordinator import CoordinatorAgent
-from agent.executions import can_have_namespaces
+from agent.runs.caller import Patience
+from agent.filters.coordinator import CoordinatorAgent
+from agent.runs.executions import can_have_namespaces
 from agent.faults import ClientGone, FarmFault, LifeOver, WaitOver
-from agent.hints import make_key
-from agent.lines import Answer
-from agent.node import NodeAgent, Setup
-from agent.redis_wire import Redis
-from agent.runs import Job, Run
-from agent.service import Connection, Service, handled
-from agent.shared import SharedFolders, Tenure
-from agent.store import FolderStore
-from agent.transport import COORDINATOR, LocalTransport
+from agent.transport.hints import make_key
+from agent.filters.lines import Answer
+from agent.filters.node import NodeAgent, Setup
+from agent.transport.redis_wire import Redis
+from agent.runs.run import Job, Run
+from agent.service.sockets import Connection, Service, handled
+from agent.folders.shared import SharedFolders, Tenure
+from agent.store.folder import FolderStore
+from agent.transport.local import COORDINATOR, LocalTransport
 from agent.words import EMPTY, Slot, Want
 
 from agent.tests import support
@@ -638,7 +638,7 @@ class Services(support.RoomTest):
         service = Service(self.path("x.sock"), lambda *_: int(ends.wait()))
         self.addCleanup(service.close)
         threading.Thread(target=service.serve, daemon=True).start()
-        with mock.patch("agent.service.HELD_MOST", 0.2), socket.socket(socket.AF_UNIX) as link:
+        with mock.patch("agent.service.sockets.HELD_MOST", 0.2), socket.socket(socket.AF_UNIX) as link:
             link.connect(service.path)
             link.settimeout(30)
             socket.send_fds(link, [b"f"], [0, 1, 2])
@@ -664,7 +664,7 @@ class Waits(unittest.TestCase):
     def test_told(self) -> None:
         """What is waited for is told when it changes, and else ever less often: 15 minutes take few lines."""
         caller, now = support.Heard(), [0.0]
-        with mock.patch("agent.caller.time.monotonic", lambda: now[0]):
+        with mock.patch("agent.runs.caller.time.monotonic", lambda: now[0]):
             patience = Patience(caller, None)
             for second in range(900):
                 now[0] = float(second)
@@ -724,7 +724,7 @@ class Unanswered(support.RoomTest):
                 except ClientGone as fault:
                     ends.append(fault)
 
-            with self.subTest(folder), mock.patch("agent.caller.LATE", 0.5):
+            with self.subTest(folder), mock.patch("agent.runs.caller.LATE", 0.5):
                 if folder.startswith("shared") and not can_have_namespaces():
                     continue
                 thread = threading.Thread(target=does)

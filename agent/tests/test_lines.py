@@ -13,8 +13,8 @@ from unittest import mock
 
 from agent import tools
 from agent.faults import FarmFault, LifeOver, Missing
-from agent.lines import Answer, Filter, FilterGone, Talk, line_of
-from agent.service import Connection, Service
+from agent.filters.lines import Answer, Filter, FilterGone, Talk, line_of
+from agent.service.sockets import Connection, Service
 
 from agent.tests import support
 

@@ -11,16 +11,16 @@ import urllib.parse
 from typing import Any
 from unittest import mock
 
-from agent import trees
-from agent.chunks import chunk_names, chunk_path
+from agent.folders import trees
+from agent.store.chunks import chunk_names, chunk_path
 from agent.faults import ClientGone, FarmFault, Missing, UsageFault
-from agent.hints import Hints, make_key
-from agent.needs import Needs, parts
-from agent.redis_store import RedisStore
-from agent.redis_transport import RedisTransport
-from agent.redis_wire import Redis, RedisAway, RedisFault
-from agent.store import ChunksMissing
-from agent.transport import LocalTransport, Transport, address_of
+from agent.transport.hints import Hints, make_key
+from agent.transport.needs import Needs, parts
+from agent.store.redis import RedisStore
+from agent.transport.redis import RedisTransport
+from agent.transport.redis_wire import Redis, RedisAway, RedisFault
+from agent.store.folder import ChunksMissing
+from agent.transport.local import LocalTransport, Transport, address_of
 
 from agent.tests import support
 
@@ -175,7 +175,7 @@ class OverRedis(Carries):
 
         store = RedisStore.__new__(RedisStore)
         store.server, store.farm = mock.Mock(calls=call), "t"
-        module = "agent.redis_store"
+        module = "agent.store.redis"
         with (
             mock.patch(f"{module}.time.monotonic", lambda: now[0]), mock.patch(f"{module}.time.sleep"), mock.patch(f"{module}.AT_ONCE", 1),
             mock.patch(f"{module}.chunk_names", lambda index: list("01234567")),

@@ -14,13 +14,13 @@ import unittest
 from typing import Callable
 from unittest import mock
 
-from agent import trees
-from agent.chunks import chunk_names, chunk_path
+from agent.folders import trees
+from agent.store.chunks import chunk_names, chunk_path
 from agent.faults import FarmFault
-from agent.hints import make_key
-from agent.places import Places, Trash, check_apart, path_order, place_of
-from agent.standing import identity, signature
-from agent.store import FolderStore, put_file
+from agent.transport.hints import make_key
+from agent.folders.places import Places, Trash, check_apart, path_order, place_of
+from agent.folders.standing import identity, signature
+from agent.store.folder import FolderStore, put_file
 from agent.words import EMPTY
 
 from agent.tests import support
@@ -271,7 +271,7 @@ class Standing(support.RoomTest):
             self.assertEqual(signature(self.path("w")), before)
             self.change(row)
             self.assertNotEqual(signature(self.path("w")), before, number)
-        with mock.patch("agent.standing.LOOKS", 2), mock.patch("agent.standing.time.time_ns", return_value=0):
+        with mock.patch("agent.folders.standing.LOOKS", 2), mock.patch("agent.folders.standing.time.time_ns", return_value=0):
             self.assertIsNone(signature(self.path("w")), "the clock was set back")
         os.link(self.path("w/a/f"), self.path("w/a/g"))
         self.assertIsNone(signature(self.path("w")))
@@ -297,7 +297,7 @@ class Standing(support.RoomTest):
         if signature(path) is None:
             self.skipTest("no file system here whose times are trusted")
         number = os.stat(self.path("w/f")).st_ino
-        with mock.patch("agent.trees.make", side_effect=AssertionError), mock.patch("agent.trees.extract", side_effect=AssertionError):
+        with mock.patch("agent.folders.trees.make", side_effect=AssertionError), mock.patch("agent.folders.trees.extract", side_effect=AssertionError):
             places.fill(store, index, path)
             self.assertEqual(places.keep(store, path), (index, digest))
             Places(self.path("home")).fill(store, index, path)

@@ -3,7 +3,7 @@ from __future__ import annotations
 
 import unittest
 
-from agent.store import FolderStore
+from agent.store.folder import FolderStore
 from agent.trials.chaos import Copy
 from agent.trials.verdict import Lines, Told, Verdict, told_of
 

@@ -14,7 +14,7 @@ import urllib.error
 import urllib.request
 from typing import Any
 
-from agent import web
+from agent.web import web
 from agent.faults import FarmFault
 
 from agent.tests import support

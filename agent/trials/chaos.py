@@ -25,12 +25,12 @@ from pathlib import Path
 sys.dont_write_bytecode = True
 sys.path.insert(0, str(Path(__file__).resolve().parents[2]))
 
-from agent.chunks import chunk_names  # noqa: E402
-from agent.executions import can_have_namespaces  # noqa: E402
+from agent.store.chunks import chunk_names  # noqa: E402
+from agent.runs.executions import can_have_namespaces  # noqa: E402
 from agent.faults import FarmFault  # noqa: E402
-from agent.hints import Hints  # noqa: E402
-from agent.redis_store import RedisStore  # noqa: E402
-from agent.store import FolderStore, Store  # noqa: E402
+from agent.transport.hints import Hints  # noqa: E402
+from agent.store.redis import RedisStore  # noqa: E402
+from agent.store.folder import FolderStore, Store  # noqa: E402
 from agent.trials.farms import PYTHON_FARM, Attacker, Farm, Machines, OverRedis, Pipes, kill  # noqa: E402
 from agent.trials.verdict import HALF, Lines, Source, Told, Verdict, told_of  # noqa: E402
 

@@ -20,10 +20,10 @@ sys.dont_write_bytecode = True
 sys.path.insert(0, str(Path(__file__).resolve().parents[2]))
 
 from agent import cli, places, redis_store, serving, store  # noqa: E402
-from agent.lines import Answer  # noqa: E402
-from agent.node import NodeAgent  # noqa: E402
-from agent.redis_transport import RedisTransport  # noqa: E402
-from agent.transport import LocalTransport, Transport, address_of  # noqa: E402
+from agent.filters.lines import Answer  # noqa: E402
+from agent.filters.node import NodeAgent  # noqa: E402
+from agent.transport.redis import RedisTransport  # noqa: E402
+from agent.transport.local import LocalTransport, Transport, address_of  # noqa: E402
 from agent.words import EMPTY  # noqa: E402
 
 KEPT = 300  # old lines from which one is repeated

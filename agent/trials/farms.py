@@ -13,11 +13,11 @@ import threading
 import time
 from typing import Any, Callable
 
-from agent import launch
+from agent.runs import launch
 from agent.faults import FarmFault
-from agent.hints import Hints, make_key
-from agent.redis_wire import Redis, RedisFault
-from agent.serving import farm_name
+from agent.transport.hints import Hints, make_key
+from agent.transport.redis_wire import Redis, RedisFault
+from agent.service.serving import farm_name
 from agent.tests.support import free_port
 from agent.tools import TOP, need
 

@@ -21,7 +21,7 @@ from typing import Callable, Iterator
 sys.dont_write_bytecode = True
 sys.path.insert(0, str(Path(__file__).resolve().parents[2]))
 
-from agent.executions import can_have_namespaces  # noqa: E402
+from agent.runs.executions import can_have_namespaces  # noqa: E402
 from agent.tools import TOP, farm_program  # noqa: E402
 from agent.trials.farms import PYTHON_FARM  # noqa: E402
 

@@ -18,7 +18,7 @@ from typing import Callable
 sys.dont_write_bytecode = True
 sys.path.insert(0, str(Path(__file__).resolve().parents[2]))
 
-from agent.lines import Answer, Filter, FilterGone  # noqa: E402
+from agent.filters.lines import Answer, Filter, FilterGone  # noqa: E402
 from agent.tools import farm_program  # noqa: E402
 from agent.trials.talks import KEY, Wrong, digest_of, expect, from_outside  # noqa: E402
 

@@ -8,7 +8,7 @@ import hmac
 import shutil
 from typing import Callable, Protocol
 
-from agent.lines import Answer
+from agent.filters.lines import Answer
 from agent.words import EMPTY
 
 KEY = "5" * 64

@@ -9,9 +9,9 @@ from collections import Counter
 from dataclasses import dataclass, field
 from typing import Iterator, Protocol
 
-from agent import trees
+from agent.folders import trees
 from agent.faults import FarmFault
-from agent.store import Store
+from agent.store.folder import Store
 
 HALF = "half"  # a file that a command removes before it ends
 Lines = dict[str, list[tuple[int, int, str]]]  # of a slot: number, ticket and digest of each version

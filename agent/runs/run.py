@@ -11,13 +11,13 @@ import time
 from dataclasses import dataclass, field
 from typing import Callable
 
-from agent.caller import Caller, Patience
-from agent.executions import Execution
+from agent.runs.caller import Caller, Patience
+from agent.runs.executions import Execution
 from agent.faults import ClientGone, FarmFault, LifeOver, NodeRetired, UsageFault
-from agent.lines import line_of
-from agent.node import Ending, NodeAgent
-from agent.places import check_apart, path_order, place_of
-from agent.shared import Closed, Tenure
+from agent.filters.lines import line_of
+from agent.filters.node import Ending, NodeAgent
+from agent.folders.places import check_apart, path_order, place_of
+from agent.folders.shared import Closed, Tenure
 from agent.tools import LOOK, need
 from agent.words import MOST_FOLDERS, Grant, Slot, Want
 

@@ -19,7 +19,7 @@ import threading
 import time
 from typing import Any, Callable, Iterator
 
-from agent import launch
+from agent.runs import launch
 from agent.faults import tell
 
 

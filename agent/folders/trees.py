@@ -14,9 +14,9 @@ import subprocess
 import tempfile
 from typing import Callable, Iterator, Sequence
 
-from agent.chunks import chunk_names, chunk_path, is_whole
+from agent.store.chunks import chunk_names, chunk_path, is_whole
 from agent.faults import FarmFault
-from agent.store import Store
+from agent.store.folder import Store
 from agent.tools import need, whole, why
 
 # What an index keeps of a file. A `--without=all` beside these would undo them, wherever it stood.

@@ -8,7 +8,7 @@ import posixpath
 import re
 from dataclasses import dataclass
 
-from agent.dockertext import BadDockerfile
+from agent.build.dockertext import BadDockerfile
 from agent.words import SHARINGS, folder_text, short_name
 
 

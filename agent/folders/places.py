@@ -20,12 +20,12 @@ import threading
 import time
 from typing import Any, Callable, Iterator
 
-from agent import trees
-from agent.claims import claim
+from agent.folders import trees
+from agent.folders.claims import claim
 from agent.faults import FarmFault, UsageFault, named
-from agent.standing import identity, signature
-from agent.store import NEW, Store, put_file
-from agent.trees import is_folder
+from agent.folders.standing import identity, signature
+from agent.store.folder import NEW, Store, put_file
+from agent.folders.trees import is_folder
 from agent.words import short_name
 
 LONGEST = 4095  # bytes of a path

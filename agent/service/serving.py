@@ -13,22 +13,22 @@ import time
 from dataclasses import dataclass, field
 from typing import Any
 
-from agent.builds import Build, Builds, BuildAsked
-from agent.client import check_home
-from agent.coordinator import SILENT_LEAST, CoordinatorAgent
-from agent.executions import open_many
+from agent.build.builds import Build, Builds, BuildAsked
+from agent.service.client import check_home
+from agent.filters.coordinator import SILENT_LEAST, CoordinatorAgent
+from agent.runs.executions import open_many
 from agent.faults import LOST, FarmFault, UsageFault, show, tell
-from agent.hints import Hints, make_key
-from agent.lines import line_of
-from agent.node import NodeAgent, Setup
-from agent.places import check_outside
-from agent.redis_store import RedisStore
-from agent.redis_transport import RedisTransport
-from agent.runs import Job, Run
-from agent.service import Connection, Handler, Service
-from agent.store import FolderStore, Store, is_old
+from agent.transport.hints import Hints, make_key
+from agent.filters.lines import line_of
+from agent.filters.node import NodeAgent, Setup
+from agent.folders.places import check_outside
+from agent.store.redis import RedisStore
+from agent.transport.redis import RedisTransport
+from agent.runs.run import Job, Run
+from agent.service.sockets import Connection, Handler, Service
+from agent.store.folder import FolderStore, Store, is_old
 from agent.tools import farm_program
-from agent.transport import LocalTransport, Transport
+from agent.transport.local import LocalTransport, Transport
 from agent.words import DIGEST, want_of
 
 IDLE = 10.0  # seconds after which a farm that a command started for itself ends

@@ -13,10 +13,10 @@ import os
 import time
 from typing import Callable
 
-from agent.chunks import chunk_names, chunk_path, is_kept
+from agent.store.chunks import chunk_names, chunk_path, is_kept
 from agent.faults import FarmFault
-from agent.redis_wire import Redis, RedisAway, RedisFault, Word
-from agent.store import ChunksMissing, FolderStore, put_file
+from agent.transport.redis_wire import Redis, RedisAway, RedisFault, Word
+from agent.store.folder import ChunksMissing, FolderStore, put_file
 
 AT_ONCE = 64  # chunks of one request
 AWAY = 120.0  # seconds for which a server that is away is tried again: what a command made would be lost

@@ -14,7 +14,7 @@ import tempfile
 import time
 from typing import Callable, Iterator, Protocol
 
-from agent.chunks import chunk_names, chunk_path, chunk_sizes, is_kept, is_right
+from agent.store.chunks import chunk_names, chunk_path, chunk_sizes, is_kept, is_right
 from agent.faults import FarmFault, named
 from agent.words import DIGEST, EMPTY
 

@@ -12,8 +12,8 @@ import re
 from dataclasses import dataclass, field
 from typing import Callable
 
-from agent.dockertext import BadDockerfile, Flag, Instruction, Unknown, expanded, flags_of, instructions, pairs_of, raw_words
-from agent.mounts import Mount, mount_of
+from agent.build.dockertext import BadDockerfile, Flag, Instruction, Unknown, expanded, flags_of, instructions, pairs_of, raw_words
+from agent.build.mounts import Mount, mount_of
 from agent.words import MOST_FOLDERS
 
 

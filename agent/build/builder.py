@@ -17,11 +17,11 @@ from dataclasses import dataclass, field
 from datetime import datetime
 from typing import Callable, Iterator, Protocol
 
-from agent.dockerfile import Base
-from agent.dockertext import BadDockerfile
-from agent.executions import launcher
+from agent.build.dockerfile import Base
+from agent.build.dockertext import BadDockerfile
+from agent.runs.executions import launcher
 from agent.faults import FarmFault, UsageFault
-from agent.launch import ORPHANED
+from agent.runs.launch import ORPHANED
 from agent.tools import need, whole, why
 
 # An image's name as registries spell it: a first part with a point or a port is a registry, and all else is in small letters.

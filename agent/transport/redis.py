@@ -10,7 +10,7 @@ import threading
 import time
 from collections import deque
 
-from agent.redis_wire import Redis
+from agent.transport.redis_wire import Redis
 
 LENGTH = 2_000  # lines that a stream keeps
 MOST = 1 << 20  # characters of a line: contents go through the store, so a longer one is lost

@@ -12,7 +12,7 @@ from types import FrameType
 from typing import Any
 
 from agent.faults import LOST, FarmFault, UsageFault, tell
-from agent.launch import PASSED
+from agent.runs.launch import PASSED
 
 
 class NoFarm(FarmFault):

@@ -11,14 +11,14 @@ import time
 from dataclasses import dataclass
 from typing import TYPE_CHECKING, Callable, Iterable
 
-from agent.caller import LATE, Caller, Patience
+from agent.runs.caller import LATE, Caller, Patience
 from agent.faults import ClientGone, FarmFault, LifeOver, sentence
-from agent.lines import line_of
+from agent.filters.lines import line_of
 from agent.tools import LOOK
 from agent.words import Slot, short_name
 
 if TYPE_CHECKING:
-    from agent.node import NodeAgent
+    from agent.filters.node import NodeAgent
 
 MOST_DELAYED = 64
 

@@ -13,18 +13,18 @@ import time
 from dataclasses import dataclass
 from typing import Callable
 
-from agent.caller import LATE, Caller, Patience
-from agent.executions import Executions
+from agent.runs.caller import LATE, Caller, Patience
+from agent.runs.executions import Executions
 from agent.faults import ClientGone, FarmFault, LifeOver, NodeRetired, WaitOver, tell
-from agent.hints import Hints
-from agent.lines import Answer, Talk, line_of
-from agent.needs import Needs
-from agent.places import Places
-from agent.shared import SharedFolders
-from agent.store import ChunksMissing, Store
+from agent.transport.hints import Hints
+from agent.filters.lines import Answer, Talk, line_of
+from agent.transport.needs import Needs
+from agent.folders.places import Places
+from agent.folders.shared import SharedFolders
+from agent.store.folder import ChunksMissing, Store
 from agent.tools import LOOK
-from agent.transport import COORDINATOR, Transport, address_of, node_address
-from agent.trees import NotMade
+from agent.transport.local import COORDINATOR, Transport, address_of, node_address
+from agent.folders.trees import NotMade
 from agent.words import EMPTY, Grant, Slot, grant_of, versions_of
 
 AWAITED = ("took", "learned", "dropped", "denied", "blob", "recalled", "gave")  # notes that somebody may wait for

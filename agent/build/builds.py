@@ -10,13 +10,13 @@ import tempfile
 import threading
 from dataclasses import dataclass, field
 
-from agent import dockerfile
-from agent.builder import Buildah, Builder, Image, check_tag
-from agent.caller import Caller, Patience
-from agent.dockertext import BadDockerfile
+from agent.build import dockerfile
+from agent.build.builder import Buildah, Builder, Image, check_tag
+from agent.runs.caller import Caller, Patience
+from agent.build.dockertext import BadDockerfile
 from agent.faults import BAD_DOCKERFILE, FENCED_BUILD, LOST, FarmFault
-from agent.node import NodeAgent
-from agent.runs import Job, Run
+from agent.filters.node import NodeAgent
+from agent.runs.run import Job, Run
 from agent.words import Want
 
 # What of a caller's environment a build gets.

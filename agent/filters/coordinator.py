@@ -11,13 +11,13 @@ import threading
 import time
 from typing import Any
 
-from agent.chunks import folder_size
+from agent.store.chunks import folder_size
 from agent.faults import FarmFault, LifeOver, UsageFault
-from agent.hints import Hints
-from agent.lines import Answer, Filter, FilterGone, Talk, line_of
-from agent.needs import parts
-from agent.node import HEARTBEAT, Setup
-from agent.transport import COORDINATOR, address_of, node_address
+from agent.transport.hints import Hints
+from agent.filters.lines import Answer, Filter, FilterGone, Talk, line_of
+from agent.transport.needs import parts
+from agent.filters.node import HEARTBEAT, Setup
+from agent.transport.local import COORDINATOR, address_of, node_address
 from agent.words import DIGEST, is_folder
 
 NUDGE_MOST = 15.0

@@ -1,0 +1,1 @@
+"""Builds: which folders a Dockerfile wants, and the builders behind one interface."""

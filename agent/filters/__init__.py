@@ -1,0 +1,1 @@
+"""The agents of the two filters, and the talk with a filter."""

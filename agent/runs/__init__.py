@@ -1,0 +1,1 @@
+"""One command under one lease: its caller, its processes, its end."""

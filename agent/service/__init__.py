@@ -1,0 +1,1 @@
+"""The processes of a farm on one machine, and their sockets."""

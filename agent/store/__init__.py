@@ -1,0 +1,1 @@
+"""Where contents lie, how they last, and what is forgotten."""

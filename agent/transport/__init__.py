@@ -1,0 +1,1 @@
+"""What goes from process to process: lines, and what agents tell each other beside them."""

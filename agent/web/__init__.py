@@ -1,0 +1,1 @@
+"""The page with the farm's status."""
