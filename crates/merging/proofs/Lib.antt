@@ -1,0 +1,11 @@
+pub mod ChoiceLaws
+pub mod DecideLoop
+pub mod LineLaws
+pub mod Lookups
+pub mod MergeLaws
+pub mod PathLaws
+pub mod Prefixes
+pub mod Rising
+pub mod RowLaws
+pub mod RowLoop
+pub mod TextLaws

@@ -1,0 +1,6 @@
+pub mod Choices
+pub mod Listings
+pub mod Merging
+pub mod Rows
+pub mod Texts
+pub mod Views

@@ -1,0 +1,21 @@
+//! The merge of what a command changed in a folder into what the folder has become meanwhile.
+#![tactic(auto)]
+
+mod below;
+mod escape;
+pub mod laws;
+mod listing;
+mod merging;
+mod refusal;
+mod row;
+mod side;
+#[cfg(test)]
+mod tests;
+mod text;
+
+pub use listing::is_listing;
+pub use merging::{Merged, Picked, merge};
+pub use refusal::ListingRefusal;
+pub use row::Line;
+pub use side::Side;
+pub use text::{listing_text, read_listing};

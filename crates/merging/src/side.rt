@@ -1,0 +1,23 @@
+ghost use Rattle.std.specs.Prelude.{◌≡◌};
+ghost use Rattle.merging.specs.Choices.{other};
+
+/// Where a path of a merge comes from; as a rule, who is right where both changed a path, differently.
+#[derive(Clone, Copy, Debug, PartialEq, Eq)]
+pub enum Side {
+    /// What the command left.
+    Mine,
+    /// The last version.
+    Theirs,
+}
+
+impl Side {
+    /// The other side.
+    pub(crate) fn other(self) -> Side
+        ensures { result ≡ other self }
+    {
+        match self {
+            Side::Mine => Side::Theirs,
+            Side::Theirs => Side::Mine,
+        }
+    }
+}

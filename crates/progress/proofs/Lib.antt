@@ -1,0 +1,5 @@
+mod Progressing
+mod Freeing
+mod Reaching
+mod Lives
+mod Asking

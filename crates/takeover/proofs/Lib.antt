@@ -1,0 +1,2 @@
+mod TakingOver
+mod Unasked
