@@ -67,7 +67,7 @@ module _ (empty : Digest) (pool : List Message) (m : Machine) (g : Grant) where
 
   says_made : (y : FromCoord) → Says empty pool m y → y ≡ told.Granted g → In (Granted g) m.made
   says_made y (Says_granted h live) e = subst (λ (z : Grant). In (Granted z) m.made) (granted_is h e) live.0
-  says_made y (Says_committed h versions a b c) e = absurd (cc)
+  says_made y (Says_committed n l t news versions a b c) e = absurd (cc)
   says_made y (Says_fenced n l t news a b c) e = absurd (cc)
   says_made y (Says_denied n l a why wants tenure i) e = absurd (cc)
   says_made y (Says_recall h live tenure) e = absurd (cc)

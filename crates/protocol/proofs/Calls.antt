@@ -409,16 +409,10 @@ module _ (k : Limits) (fits : k.instances ≤ 4096) (pool : List Message) (m : M
 
   confirm_it : (n : NodeId) (l : Life) (t : Ticket) (x : News) (xs : List News) (w : Work) (f : Fo w) → In (commit n l t (x ∷ xs)) pool → is_some (place_on_line t (w.ledger.line x.slot) 0) ≡ true → Fo (confirms n l t (x ∷ xs) w)
   confirm_it n l t x xs w f asked on =
-      let g = sent.commits n l t (x ∷ xs) asked in
-      let made : In (Granted g.0) f.machine.made = (works_sound k.empty pool m f.machine w.sends sound f.works).0.made (Granted g.0) g.1 in
       let vs : List Confirmed = versions_of w.ledger.line t (x ∷ xs) in
       let stand : (v : Confirmed) → In v vs → Stands k.empty f.machine t v = versions_stand k.empty f.machine w.ledger.line (core_at w f).lines t (x ∷ xs) in
       let some : vs ≢ [] = versions_some k.empty f.machine w.ledger.line (core_at w f).lines t x xs on in
-      say_it (told.Committed n l t vs) w f
-      (subst (λ (z : NodeId). Says k.empty pool f.machine (told.Committed z l t vs)) g.3
-      (subst (λ (z : Life). Says k.empty pool f.machine (told.Committed g.0.node z t vs)) g.4
-      (subst (λ (z : Ticket). Says k.empty pool f.machine (told.Committed g.0.node g.0.life z vs)) g.2
-      (Says_committed g.0 vs made (λ v i. subst (λ (z : Ticket). Stands k.empty f.machine z v) (sym g.2) (stand v i)) some))))
+      say_it (told.Committed n l t vs) w f (Says_committed n l t (x ∷ xs) vs asked stand some)
 
   -- after a commit the ticket is on the line of each of its slots
   now_on : (t : Ticket) (x : News) (xs : List News) (line' : Slot → List LineVersion) → is_some (place_on_line t (line' x.slot ++ version_of t (digest_for x.slot (x ∷ xs))) 0) ≡ true
@@ -496,6 +490,24 @@ module _ (k : Limits) (fits : k.instances ≤ 4096) (pool : List Message) (m : M
     pub life : grant.life ≡ y.life
     pub one : (g : Grant) → In (Granted g) f.machine.made → eqb g.ticket.0 t.0 ≡ true → g ≡ grant
 
+  -- of the sender's leases none was made in this event
+  abbrev pub Mine : Work → Type 0
+  Mine w = (h : Lease) → In h w.ledger.live → h.node ≡ y.node → h.life ≡ y.life → (g : Grant) × Live m g × (lease_from g ≡ h)
+
+  -- the grant of the sender's lease
+  record Owned (t : Ticket) : Type 0 where
+    pub grant : Grant
+    pub made : In (Granted grant) m.made
+    pub ticket : grant.ticket ≡ t
+    pub life : grant.life ≡ y.life
+
+  owned : (told : CoordNote) (w : Work) (f : At told w) → Mine w → (t : Ticket) (h : Lease) → lease_under w.ledger.live t ≡ Some h → is_its y.node y.life h ≡ true → Owned t
+  owned told w f mine t h e its =
+      let r = lease_of_ticket k fits pool m sound sent (Is told) w f t h e in
+      let i = its_is k fits pool m sound sent (Is told) y.node y.life h its in
+      let g = mine h r.0 i.0 i.1 in
+      record { grant = g.0; made = g.1.0; ticket = ap (λ (z : Lease). z.ticket) g.2 ∙ r.1; life = ap (λ (z : Lease). z.life) g.2 ∙ i.1 }
+
   named : (told : CoordNote) (w : Work) (f : At told w) (t : Ticket) (h : Lease) (g : Grant) → lease_under w.ledger.live t ≡ Some h → In (Granted g) m.made → g.ticket ≡ t → g.life ≡ y.life → Named told w f t
   named told w f t h g e made ticket life =
       let r = lease_of_ticket k fits pool m sound sent (Is told) w f t h e in
@@ -547,13 +559,14 @@ module _ (k : Limits) (fits : k.instances ≤ 4096) (pool : List Message) (m : M
       inr (ticket, ap Committed one))
   commit_from t news at g x (By_release r p) = (let bad : note.Committed t ≡ note.Released g.ticket = p in cc)
 
-  committing_it : (b : Bool) (o : Option Lease) (t : Ticket) (news : List News) (w : Work) (f : At note.Nothing w) → y.request ≡ Commit t news → In (commit y.node y.life t news) pool → lease_under w.ledger.live t ≡ o → may_commit y.node y.life news o ≡ b
+  committing_it : (b : Bool) (o : Option Lease) (t : Ticket) (news : List News) (w : Work) (f : At note.Nothing w) → Mine w → y.request ≡ Commit t news → In (commit y.node y.life t news) pool → lease_under w.ledger.live t ≡ o → may_commit y.node y.life news o ≡ b
       → At (committing k b y.node y.life t news w).note (committing k b y.node y.life t news w)
-  committing_it true None t news w f at asked e may = (let bad : false ≡ true = may in cc)
-  committing_it true (Some h) t [] w f at asked e may = (let b = and_parts (is_its y.node y.life h && slots_eq (slots_of []) (writable_slots h.slots)) false may in let bad : false ≡ true = b.1 in cc)
-  committing_it true (Some h) t (x ∷ xs) w f at asked e may =
-      let g = sent.commits y.node y.life t (x ∷ xs) asked in
-      let n = named note.Nothing w f t h g.0 e g.1 g.2 g.4 in
+  committing_it true None t news w f mine at asked e may = (let bad : false ≡ true = may in cc)
+  committing_it true (Some h) t [] w f mine at asked e may = (let b = and_parts (is_its y.node y.life h && slots_eq (slots_of []) (writable_slots h.slots)) false may in let bad : false ≡ true = b.1 in cc)
+  committing_it true (Some h) t (x ∷ xs) w f mine at asked e may =
+      let b1 = and_parts (is_its y.node y.life h && slots_eq (slots_of (x ∷ xs)) (writable_slots h.slots)) true may in
+      let g = owned note.Nothing w f mine t h e (and_parts (is_its y.node y.life h) (slots_eq (slots_of (x ∷ xs)) (writable_slots h.slots)) b1.0).0 in
+      let n = named note.Nothing w f t h g.grant e g.made g.ticket g.life in
       let told : CoordNote = note.Committed t in
       let here : (z : Grant) → z.ticket ≡ t → MessageEnds m y told z (Committed (x ∷ xs)) =
       λ z q. By_commit (x ∷ xs) (at ∙ ap (λ (u : Ticket). Commit u (x ∷ xs)) (sym q)) (ap note.Committed (sym q)) in
@@ -562,7 +575,7 @@ module _ (k : Limits) (fits : k.instances ≤ 4096) (pool : List Message) (m : M
       note_it k fits pool m sound sent (Is told) told (retried k (confirms y.node y.life t (x ∷ xs) (commits t (x ∷ xs) w)))
       (retry k fits pool m sound sent (Is told) (confirms y.node y.life t (x ∷ xs) (commits t (x ∷ xs) w))
       (confirm_it k fits pool m sound sent (Is told) y.node y.life t x xs (commits t (x ∷ xs) w) c asked (now_on k fits pool m sound sent (Is told) t x xs w.ledger.line)))
-  committing_it false o t news w f at asked e may =
+  committing_it false o t news w f mine at asked e may =
       answered_quiet (not (is_nil news) && on_all w.ledger.line t news) (answered_it k fits pool m sound sent (Is note.Nothing) (not (is_nil news) && on_all w.ledger.line t news) y.node y.life t news w f asked (ap (may_commit y.node y.life news) e ∙ may) refl)
     where
       answered_quiet : (b : Bool) → At note.Nothing (answered b y.node y.life t news w) → At (answered b y.node y.life t news w).note (answered b y.node y.life t news w)
@@ -576,16 +589,16 @@ module _ (k : Limits) (fits : k.instances ≤ 4096) (pool : List Message) (m : M
   release_from t at g x (By_commit news r p) = (let bad : note.Released t ≡ note.Committed g.ticket = p in cc)
   release_from t at g x (By_release r p) = (let same : Release t ≡ Release g.ticket = sym at ∙ r in let ticket : g.ticket ≡ t = cc in inr (ticket, refl))
 
-  released_it : (b : Bool) (o : Option Lease) (t : Ticket) (w : Work) (f : At note.Nothing w) → w.note ≡ note.Nothing → y.request ≡ Release t → In (release y.node y.life t) pool → lease_under w.ledger.live t ≡ o → may_release y.node y.life o ≡ b
+  released_it : (b : Bool) (o : Option Lease) (t : Ticket) (w : Work) (f : At note.Nothing w) → Mine w → w.note ≡ note.Nothing → y.request ≡ Release t → In (release y.node y.life t) pool → lease_under w.ledger.live t ≡ o → may_release y.node y.life o ≡ b
       → At (released k b t o w).note (released k b t o w)
-  released_it b None t w f quiet at asked e may = subst (λ n. At n w) (sym quiet) f
-  released_it false (Some h) t w f quiet at asked e may = subst (λ n. At n w) (sym quiet) f
-  released_it true (Some h) t w f quiet at asked e may =
+  released_it b None t w f mine quiet at asked e may = subst (λ n. At n w) (sym quiet) f
+  released_it false (Some h) t w f mine quiet at asked e may = subst (λ n. At n w) (sym quiet) f
+  released_it true (Some h) t w f mine quiet at asked e may =
       let r = lease_of_ticket k fits pool m sound sent (Is note.Nothing) w f t h e in
       let its = its_is k fits pool m sound sent (Is note.Nothing) y.node y.life h may in
       let g = f.agrees.live_made h r.0 in
-      let s = sent.releases y.node y.life t asked in
-      let n = named note.Nothing w f t h s.0 e s.1 s.2 s.4 in
+      let s = owned note.Nothing w f mine t h e may in
+      let n = named note.Nothing w f t h s.grant e s.made s.ticket s.life in
       let told : CoordNote = note.Released t in
       let here : (z : Grant) → z.ticket ≡ t → MessageEnds m y told z Released =
       λ z q. By_release (at ∙ ap Release (sym q)) (ap note.Released (sym q)) in
@@ -611,15 +624,15 @@ module _ (k : Limits) (fits : k.instances ≤ 4096) (pool : List Message) (m : M
       decided_quiet Wait f = quiet_it note.Parked (decided k Wait p w) (λ u q. (let bad : note.Parked ≡ note.Committed u = q in cc)) (λ u q. (let bad : note.Parked ≡ note.Released u = q in cc)) tt f
 
   -- a message of the life that is now the greatest
-  answering_by : (r : Request) (w : Work) (f : At note.Nothing w) → w.note ≡ note.Nothing → y.request ≡ r → In (Said (record { node = y.node; life = y.life; request = r })) pool → w.ledger.gone y.node.0 ≡ false → y.life.0 ≤ w.ledger.lives y.node.0
+  answering_by : (r : Request) (w : Work) (f : At note.Nothing w) → Mine w → w.note ≡ note.Nothing → y.request ≡ r → In (Said (record { node = y.node; life = y.life; request = r })) pool → w.ledger.gone y.node.0 ≡ false → y.life.0 ≤ w.ledger.lives y.node.0
       → At (answering k y.node y.life r w).note (answering k y.node y.life r w)
-  answering_by Hello w f quiet at asked here le = subst (λ n. At n w) (sym quiet) f
-  answering_by (Acquire a wants tenure) w f quiet at asked here le =
+  answering_by Hello w f mine quiet at asked here le = subst (λ n. At n w) (sym quiet) f
+  answering_by (Acquire a wants tenure) w f mine quiet at asked here le =
       let p : Parked = record { node = y.node; life = y.life; ask = a; wants = wants; tenure = tenure } in
       acquired_quiet (lease_of w.ledger.live y.node y.life a) (is_parked w.ledger.parked y.node y.life a) p w
       (acquiring_it k fits pool m sound sent (Is note.Nothing) (lease_of w.ledger.live y.node y.life a) (is_parked w.ledger.parked y.node y.life a) p w f asked here le refl refl)
-  answering_by (Commit t news) w f quiet at asked here le = committing_it (may_commit y.node y.life news (lease_under w.ledger.live t)) (lease_under w.ledger.live t) t news w f at asked refl refl
-  answering_by (Release t) w f quiet at asked here le = released_it (may_release y.node y.life (lease_under w.ledger.live t)) (lease_under w.ledger.live t) t w f quiet at asked refl refl
+  answering_by (Commit t news) w f mine quiet at asked here le = committing_it (may_commit y.node y.life news (lease_under w.ledger.live t)) (lease_under w.ledger.live t) t news w f mine at asked refl refl
+  answering_by (Release t) w f mine quiet at asked here le = released_it (may_release y.node y.life (lease_under w.ledger.live t)) (lease_under w.ledger.live t) t w f mine quiet at asked refl refl
 
-  pub answering_it : (w : Work) (f : At note.Nothing w) → w.note ≡ note.Nothing → In (Said y) pool → w.ledger.gone y.node.0 ≡ false → y.life.0 ≤ w.ledger.lives y.node.0 → At (answering k y.node y.life y.request w).note (answering k y.node y.life y.request w)
-  answering_it w f quiet asked here le = answering_by y.request w f quiet refl asked here le
+  pub answering_it : (w : Work) (f : At note.Nothing w) → Mine w → w.note ≡ note.Nothing → In (Said y) pool → w.ledger.gone y.node.0 ≡ false → y.life.0 ≤ w.ledger.lives y.node.0 → At (answering k y.node y.life y.request w).note (answering k y.node y.life y.request w)
+  answering_it w f mine quiet asked here le = answering_by y.request w f mine quiet refl asked here le

@@ -5,8 +5,8 @@ use Rattle.std.specs.Prelude.{nat_lt}
 use Rattle.farm_base.specs.Kinds.{has_shared, is_tenure, IsKind}
 use Rattle.farm_base.proofs.KindLemmas.{shared_back, tenure_back}
 use Rattle.protocol.specs.Lists.{In}
-use Rattle.protocol.specs.Names.{Mode, Shared, Private, Locked, Slot, slot_eq, slots_eq, is_private, only_slot, IsInstance, Digest, NodeId, Life, Ask, Ticket, Want, FolderName, any_shared, leased_wants, tenure_wants}
-use Rattle.protocol.specs.Machine.{Grant, GrantedSlot, News, Ending, Granted, Pruned, ticket_of, Withdrawn, Message, FromCoord, Parked, Machine, Live, Free, Based, AnswersAsk, SameAsk, want_of, line, version_at, slots_of, Names, written, acquire, commit, release, HasPart, Ends_part, Keeps, Leaves, Step, Grants, Ends, Prunes, Sees, Retires, Parks, Unparks, Raises, Steps, No_step, One_more, Says, Says_granted, Says_committed, Says_fenced, Says_denied, Says_recall}
+use Rattle.protocol.specs.Names.{Mode, Shared, Private, Locked, Slot, slot_eq, slots_eq, is_private, only_slot, IsInstance, Digest, NodeId, Life, Ask, Want, FolderName, any_shared, leased_wants, tenure_wants}
+use Rattle.protocol.specs.Machine.{Grant, GrantedSlot, Ending, Granted, Pruned, ticket_of, Withdrawn, Message, FromCoord, Parked, Machine, Live, Free, Based, AnswersAsk, SameAsk, want_of, line, version_at, Names, acquire, HasPart, Ends_part, Keeps, Leaves, Step, Grants, Ends, Prunes, Sees, Retires, Parks, Unparks, Raises, Steps, No_step, One_more, Says, Says_granted, Says_committed, Says_fenced, Says_denied, Says_recall}
 use Rattle.farm_base.specs.declared.message.FromCoord.TheVariants as told
 use Rattle.farm_base.specs.declared.message.Why.{Why}
 use Rattle.events.specs.declared.answer.CoordNote.{CoordNote}
@@ -27,7 +27,7 @@ works_sound empty pool a b sends sound (Speaks c ss y works may) = works_sound e
 
 says_live : (empty : Digest) (pool : List Message) (m : Machine) (y : FromCoord) (g : Grant) → Says empty pool m y → y ≡ told.Granted g → Live m g
 says_live empty pool m y g (Says_granted h live) e = (let same : h ≡ g = cc in subst (Live m) same live)
-says_live empty pool m y g (Says_committed h versions made all some) e = absurd (cc)
+says_live empty pool m y g (Says_committed n l t news versions i all some) e = absurd (cc)
 says_live empty pool m y g (Says_fenced n l t news i refused off) e = absurd (cc)
 says_live empty pool m y g (Says_denied n l a why wants tenure i) e = absurd (cc)
 says_live empty pool m y g (Says_recall h live tenure) e = absurd (cc)
@@ -126,9 +126,6 @@ pick_give false false false false e = record { here = refl; left = refl; idle = 
 -- what was sent is as the nodes send it
 pub record Sent (pool : List Message) (m : Machine) : Type 0 where
   pub tenures : (n : NodeId) (l : Life) (a : Ask) (wants : List Want) (tenure : Bool) → In (acquire n l a wants tenure) pool → tenure ≡ true → (f : FolderName) × (wants ≡ tenure_wants f)
-  pub commits : (n : NodeId) (l : Life) (t : Ticket) (news : List News) → In (commit n l t news) pool
-      → (g : Grant) × In (Granted g) m.made × (g.ticket ≡ t) × (g.node ≡ n) × (g.life ≡ l) × (slots_of news ≡ written g.slots) × (news ≢ [])
-  pub releases : (n : NodeId) (l : Life) (t : Ticket) → In (release n l t) pool → (g : Grant) × In (Granted g) m.made × (g.ticket ≡ t) × (g.node ≡ n) × (g.life ≡ l)
 
 module _ (k : Limits) (fits : k.instances ≤ 4096) (pool : List Message) (m : Machine) (sound : Sound k.empty m) (sent : Sent pool m) (P : (ℕ → Option Ending) → Type 0) where
   abbrev pub F : Work → Type 0

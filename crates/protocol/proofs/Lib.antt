@@ -14,6 +14,8 @@ mod Calls
 mod Others
 mod Saying
 pub mod Moving
+mod Commits
+pub mod Raiding
 mod Using
 mod Noting
 mod Parking
@@ -30,10 +32,13 @@ mod Ordering
 mod Replying
 mod LastLives
 pub mod Schedules
+mod RaidedFarms
+mod Touching
 mod Failing
 mod Chronicles
 mod Losing
 mod Processing
+mod RaidedProcesses
 pub mod Answering
 mod Asking
 pub mod Lawfulness

@@ -13,6 +13,7 @@ use Rattle.farm_base.specs.declared.message.Why.{Why}
 use Rattle.events.specs.declared.answer.How.TheVariants as how
 use Rattle.events.specs.declared.answer.NodeRefusal.{NodeRefusal}
 use Rattle.protocol.specs.Ledger.{Limits}
+use Rattle.protocol.specs.Hostile.{key_of}
 use Rattle.protocol.specs.World.{KeptAsk, Open, Holding, Running, Finished, Over, Node, World, keeps, learn_bases, learn_versions, keep, without, has_life, IsTenureOf, Asked_tenure, Held_tenure, Running_tenure, Finished_tenure, RunsTenure, Uses, Open_uses, Held_uses, Running_uses, Idle, Act, Asks, Asks_tenure, Asks_again, Greets, Takes, Gives_back, Begins, Finishes, Gives_up, Sends_commit, Learns, Drops, Is_denied, Is_recalled, Is_recalled_running, Stores, Forgets, Asks_content, Sends_blob, Restarts, Stops, Node_moves, Moves, Still, Then}
 use Rattle.protocol.specs.Nodes.{NodeWork, NodeAnswer, guard, Place, wants_folder, is_tenure_of, is_home_of, uses, at_home, others_use, in_use, HeldGrant, Sent, first, first_of, under, held, running, held_or_running, finished, recalled_if, recallable, is_stored, all_stored, is_missing, others, fetches_of, fetches, is_base, asked, asked_tenure, beginning, begun, Left, news_of, stored, leaving, finishing, finished_with, aborting, aborted, again, all_again, forgotten, needs, resent, restarted, gives_back, granted, learned, dropped, denied, recalled, of_life, heard, fetched, brought, unless_spent}
 use Rattle.names.proofs.CompareLaws.{digest_exact}
@@ -221,6 +222,36 @@ act_tells sha pool n x sends x' (Sends_blob other c) z i = not_told z _ (λ e. c
 act_tells sha pool n x sends x' Restarts z i = not_told z _ (λ e. cc) i
 act_tells sha pool n x sends x' Stops z i = i
 
+-- a message under the node's key, or under none
+abbrev pub OfNode : NodeId → Message → Type 0
+OfNode n z = (key_of z ≡ Some n) ⊎ (key_of z ≡ None)
+
+of_one : (n : NodeId) (z y : Message) → OfNode n y → In z (y ∷ []) → OfNode n z
+of_one n z y own i = subst (OfNode n) (sym (in_one z y i)) own
+
+pub act_owns : (sha : List ℕ → Digest) (pool : List Message) (n : NodeId) (x : Node) (sends : List Message) (x' : Node) → Act sha pool n x sends x' → (z : Message) → In z sends → OfNode n z
+act_owns sha pool n x sends x' (Asks wants h) z i = of_one n z _ (inl refl) i
+act_owns sha pool n x sends x' (Asks_tenure f h) z i = of_one n z _ (inl refl) i
+act_owns sha pool n x sends x' (Asks_again b wants tenure e) z i = of_one n z _ (inl refl) i
+act_owns sha pool n x sends x' Greets z i = of_one n z _ (inl refl) i
+act_owns sha pool n x sends x' (Takes g wants tenure j p q e) z i = absurd i
+act_owns sha pool n x sends x' (Gives_back g j p q o keep') z i = of_one n z _ (inl refl) i
+act_owns sha pool n x sends x' (Begins wants g r a at all) z i = absurd i
+act_owns sha pool n x sends x' (Finishes wants g r a news store at idle slots some ok) z i = of_one n z _ (inl refl) i
+act_owns sha pool n x sends x' (Gives_up wants g r a at idle) z i = of_one n z _ (inl refl) i
+act_owns sha pool n x sends x' (Sends_commit wants g a news at) z i = of_one n z _ (inl refl) i
+act_owns sha pool n x sends x' (Learns wants g a news versions j at) z i = absurd i
+act_owns sha pool n x sends x' (Drops wants g a news j at) z i = absurd i
+act_owns sha pool n x sends x' (Is_denied a why wants tenure j at) z i = absurd i
+act_owns sha pool n x sends x' (Is_recalled wants g a j at) z i = absurd i
+act_owns sha pool n x sends x' (Is_recalled_running wants g a j at) z i = absurd i
+act_owns sha pool n x sends x' (Stores c) z i = absurd i
+act_owns sha pool n x sends x' (Forgets d c e) z i = absurd i
+act_owns sha pool n x sends x' (Asks_content other d) z i = of_one n z _ (inr refl) i
+act_owns sha pool n x sends x' (Sends_blob other c) z i = of_one n z _ (inr refl) i
+act_owns sha pool n x sends x' Restarts z i = of_one n z _ (inl refl) i
+act_owns sha pool n x sends x' Stops z i = absurd i
+
 -- a world that the node's acts lead to
 pub record Reached (sha : List ℕ → Digest) (u : World) (n : NodeId) (sends : List Message) (x : Node) : Type 0 where
   pub world : World
@@ -230,6 +261,7 @@ pub record Reached (sha : List ℕ → Digest) (u : World) (n : NodeId) (sends :
   pub pool : world.pool ≡ u.pool ++ sends
   pub nodes : (j : ℕ) → world.nodes j ≡ put n.0 x u.nodes j
   pub tells : NoneTold sends
+  pub owns : (z : Message) → In z sends → OfNode n z
 
 module _ (sha : List ℕ → Digest) (u : World) (n : NodeId) where
   abbrev pub here : Node
@@ -243,6 +275,7 @@ module _ (sha : List ℕ → Digest) (u : World) (n : NodeId) where
     down = refl;
     pool = sym (append-nil u.pool);
     tells = λ z i. i;
+    owns = λ z i. absurd i;
     nodes = λ j. elim (cases_eq j n.0) [
       | inl e ↦ ap u.nodes e ∙ sym (ap (put n.0 here u.nodes) e ∙ put_same n.0 here u.nodes)
       | inr ne ↦ sym (put_other n.0 here u.nodes j ne)
@@ -263,6 +296,7 @@ module _ (sha : List ℕ → Digest) (u : World) (n : NodeId) where
         down = r.down;
         pool = ap (λ p. p ++ more) r.pool ∙ append_assoc u.pool sends more;
         tells = λ z i. elim (in_append (Told z) sends more i) [ inl j ↦ r.tells z j | inr j ↦ act_tells sha (u.pool ++ sends) n x more y act z j ];
+        owns = λ z i. elim (in_append z sends more i) [ inl j ↦ r.owns z j | inr j ↦ act_owns sha (u.pool ++ sends) n x more y act z j ];
         nodes = λ j. elim (cases_eq j n.0) [
           | inl e ↦ ap (put n.0 y v.nodes) e ∙ put_same n.0 y v.nodes ∙ sym (ap (put n.0 y u.nodes) e ∙ put_same n.0 y u.nodes)
           | inr ne ↦ put_other n.0 y v.nodes j ne ∙ r.nodes j ∙ put_other n.0 x u.nodes j ne ∙ sym (put_other n.0 y u.nodes j ne)

@@ -20,7 +20,7 @@ use Rattle.protocol.proofs.Base.{lt_not, true_false, none_some, some_is, eqb_sam
 use Rattle.protocol.proofs.Steps.{Sound, later_refl, same_grant}
 use Rattle.protocol.proofs.Leases.{Core, core_of, agrees_from, not_leased, find_some, find_in, waits_filter}
 use Rattle.protocol.proofs.Following.{part_filter, part_none, Sent, notes_follows, now_sound, grant_says, retried_follows, more_sent}
-use Rattle.protocol.proofs.Trying.{raised_block, raised_covers, try-gone, try-lives, try-note}
+use Rattle.protocol.proofs.Trying.{raised_block, raised_covers, try_new, try-gone, try-lives, try-note}
 use Rattle.protocol.proofs.Meanings.{none_ended, ended_more}
 use Rattle.protocol.proofs.Bulk.{EndsThose}
 use Rattle.protocol.proofs.Calls as calls
@@ -53,6 +53,21 @@ lt_is a b h = grind (arith, nat_tests)
 filter-not_not : {A : Type 0} (test : A → Bool) (xs : List A) → filter (λ x. not (not (test x))) xs ≡ filter test xs
 filter-not_not test [] = refl
 filter-not_not test (x ∷ xs) = (let rest = filter-not_not test xs in elim (cases_Bool (test x)) [ inl t ↦ rw (t, rest) refl | inr t ↦ rw (t, rest) refl ])
+
+-- a lease of a life that has just begun is one of before: no ask of that life was parked
+pub newer_mine : (k : Limits) (q : Ledger) → ((p : Parked) → In p q.parked → p.life.0 ≤ q.lives p.node.0) → (n : NodeId) (l : Life) → nat_lt (q.lives n.0) l.0 ≡ true → (h : Lease) → In h (newer_life k n l (begin_work q)).ledger.live → h.node ≡ n → h.life ≡ l → In h q.live
+unfolding newer_life retried
+newer_mine k q known n l newer h i at life = elim (cases_Bool (list_any (is_older n l) q.live || is_home n q.old_home)) [
+  | inl t ↦ elim (try_new k (sees n l (begin_work q)).ledger.parked (sees n l (begin_work q)) h (rw t at i)) [
+    | inl old ↦ (from_filter (λ (g : Lease). not (is_older n l g)) h q.live old).0
+    | inr r ↦ (let le : r.0.life.0 ≤ q.lives r.0.node.0 = known r.0 (from_filter (λ (p : Parked). not (is_older_ask n l p)) r.0 q.parked r.1).0 in
+        let lt : q.lives n.0 < l.0 = lt_is (q.lives n.0) l.0 newer in
+        let same : q.lives r.0.node.0 ≡ q.lives n.0 = ap (λ (z : NodeId). q.lives z.0) (sym r.2 ∙ at) in
+        let its : r.0.life.0 ≡ l.0 = ap (λ (z : Life). z.0) (sym r.3 ∙ life) in
+        absurd (omega arith))
+  ]
+  | inr t ↦ (let j : In h (filter (λ (g : Lease). not (is_older n l g)) q.live) = rw t at i in (from_filter (λ (g : Lease). not (is_older n l g)) h q.live j).0)
+]
 
 module _ (k : Limits) (fits : k.instances ≤ 4096) (pool : List Message) (m : Machine) (sound : Sound k.empty m) (sent : Sent pool m) (P : (ℕ → Option Ending) → Type 0) where
   abbrev Fi : Work → Type 0
@@ -404,12 +419,12 @@ module _ (k : Limits) (fits : k.instances ≤ 4096) (pool : List Message) (m : M
             let here' : m.gone y.node.0 ≡ false = sym gone ∙ here in
             let v = newer_it k fits pool m sound sent Same (Meant m (MessageEnds m y note.Nothing) note.Nothing) y.node y.life (begin_work q) (begins Same q agrees refl) (y, asked, refl, refl) here newer
             (λ e those. (just_those (MessageEnds m y note.Nothing) (is_older y.node y.life) Died e those (older_is y note.Nothing here' lt) (is_older_is y), tt)) in
-            calls.answering_it k fits pool m sound sent y (newer_life k y.node y.life (begin_work q)) v.0 v.2 asked (ap (λ (f : ℕ → Bool). f y.node.0) v.1 ∙ here) (let kept : (newer_life k y.node y.life (begin_work q)).ledger.lives y.node.0 ≡ y.life.0 = ap (λ (f : ℕ → ℕ). f y.node.0) (newer-lives k y.node y.life (begin_work q)) ∙ put_same y.node.0 y.life.0 q.lives in omega arith))
+            calls.answering_it k fits pool m sound sent y (newer_life k y.node y.life (begin_work q)) v.0 (λ h i at life. agrees.live_made h (newer_mine k q (λ p j. (agrees.asked p j).2) y.node y.life newer h i at life)) v.2 asked (ap (λ (f : ℕ → Bool). f y.node.0) v.1 ∙ here) (let kept : (newer_life k y.node y.life (begin_work q)).ledger.lives y.node.0 ≡ y.life.0 = ap (λ (f : ℕ → ℕ). f y.node.0) (newer-lives k y.node y.life (begin_work q)) ∙ put_same y.node.0 y.life.0 q.lives in omega arith))
         | inr same ↦ rw same (calls.answering_it k fits pool m sound sent y (begin_work q) (begins (Meant m (MessageEnds m y note.Nothing) note.Nothing) q agrees (
           none_ended m (MessageEnds m y note.Nothing) (quiet_ends y note.Nothing (λ u p. (let bad : note.Nothing ≡ note.Committed u = p in cc)) (λ u p. (let bad : note.Nothing ≡ note.Released u = p in cc))
               (λ here newer. (let le : y.life.0 ≤ q.lives y.node.0 = lt_not (q.lives y.node.0) y.life.0 same in let e : q.lives y.node.0 ≡ m.lives y.node.0 = lives in omega arith))),
           tt,
-        )) refl asked here (lt_not (q.lives y.node.0) y.life.0 same))
+        )) (λ h i at life. agrees.live_made h i) refl asked here (lt_not (q.lives y.node.0) y.life.0 same))
       ])
     ])
   ]

@@ -47,22 +47,22 @@ place_of x xs i = (let r = by xs i in (suc r.0, r.1))
     by (y ∷ xs) (inr i) = (let r = by xs i in (suc r.0, r.1))
 
 -- what of the first is of leases stands in the second
-abbrev Carries : List Message → List Message → Type 0
+abbrev pub Carries : List Message → List Message → Type 0
 Carries xs ys = (m : Message) → IsOfLeases m → In m xs → In m ys
 
-abbrev Within : List Message → List Message → Type 0
+abbrev pub Within : List Message → List Message → Type 0
 Within xs ys = (m : Message) → In m xs → In m ys
 
-part_within : {A : Type 0} {xs ys : List A} → HasPart xs ys → (x : A) → In x ys → In x xs
+pub part_within : {A : Type 0} {xs ys : List A} → HasPart xs ys → (x : A) → In x ys → In x xs
 part_within Ends_part m i = i
 part_within (Keeps x xs ys p) m (inl e) = inl e
 part_within (Keeps x xs ys p) m (inr i) = inr (part_within p m i)
 part_within (Leaves x xs ys p) m i = inr (part_within p m i)
 
-all_carried : (xs ys zs : List Message) → Carries xs zs → Carries ys zs → Carries (xs ++ ys) zs
+pub all_carried : (xs ys zs : List Message) → Carries xs zs → Carries ys zs → Carries (xs ++ ys) zs
 all_carried xs ys zs f g m o i = elim (in_append m xs ys i) [ inl j ↦ f m o j | inr j ↦ g m o j ]
 
-all_within : (xs ys zs : List Message) → Within xs zs → Within ys zs → Within (xs ++ ys) zs
+pub all_within : (xs ys zs : List Message) → Within xs zs → Within ys zs → Within (xs ++ ys) zs
 all_within xs ys zs f g m i = elim (in_append m xs ys i) [ inl j ↦ f m j | inr j ↦ g m j ]
 
 -- ---- tests of numbers
@@ -534,7 +534,7 @@ processes_stay_safe sha k farm size p later runs more = stay_safe sha k farm siz
 
 -- ---- what was withdrawn
 
-batch_append : (k : Limits) (early late : List Call) (b : Batch) → batch k (early ++ late) b ≡ batch k late (batch k early b)
+pub batch_append : (k : Limits) (early late : List Call) (b : Batch) → batch k (early ++ late) b ≡ batch k late (batch k early b)
 batch_append k [] late b = refl
 batch_append k (c ∷ early) late b = batch_append k early late (taken (decided k b.ledger c) b)
 

@@ -46,7 +46,7 @@ line_rising empty s e (x ∷ xs) b h =
     ]
 
 -- a version has one digest on one line
-one_digest : (empty : Digest) (vs : List LineVersion) (k : ℕ) (d d' : Digest) → Names empty vs k d → Names empty vs k d' → d ≡ d'
+pub one_digest : (empty : Digest) (vs : List LineVersion) (k : ℕ) (d d' : Digest) → Names empty vs k d → Names empty vs k d' → d ≡ d'
 one_digest empty vs k d d' (inl h) (inl h') = h.1 ∙ sym h'.1
 one_digest empty vs k d d' (inl h) (inr h') = (let a : k ≡ 0 = h.0 in let b : k ≡ h'.0 + 1 = h'.2 in absurd (omega arith))
 one_digest empty vs k d d' (inr h) (inl h') = (let a : k ≡ 0 = h'.0 in let b : k ≡ h.0 + 1 = h.2 in absurd (omega arith))
@@ -94,7 +94,7 @@ module _ (sha : List ℕ → Digest) (w : World) (inv : Inv sha w) where
   in_use_its n g ws u = (in_use_ok n g ws u).0
 
   -- an execution isn't spent
-  in_use_unspent : (n : NodeId) (g : Grant) (ws : List Want) → InUse w n g ws → Spent (w.nodes n.0) g → ⊥
+  pub in_use_unspent : (n : NodeId) (g : Grant) (ws : List Want) → InUse w n g ws → Spent (w.nodes n.0) g → ⊥
   in_use_unspent n g ws u s =
       let its = in_use_its n g ws u in
       let life : g.life.0 ≡ (w.nodes n.0).life.0 = ap (λ (z : Life). z.0) its.2 in

@@ -41,7 +41,7 @@ use Rattle.protocol.proofs.Leases.{core_of, grant-lease, lease_has, has_lease, f
 use Rattle.protocol.proofs.Using.{Runs, Turned, NoGrant, Quiet, OneEach, one_each, OnNode, Begun, Stops, Aborts, asked_use, tenure_use, begun_use, finished_use, aborted_use, resent_use, heard_use, fetched_use, brought_use, forgotten_use}
 use Rattle.std.specs.Prelude.{⊤, nat_lt, nat_le}
 use Rattle.std.proofs.lemmas.Bool.Decides.{nat_tests}
-use Rattle.protocol.specs.Follows.{lease_from, Agrees, Works, Begins_work, Goes_on, Speaks, Follows, SavedAgrees, Shows, IsFarm, SafeAfter, SafeBetween, EveryScheduleIsSafe, EveryScheduleStaysSafe, EveryEventIsMoves, FollowsOk, EveryDecisionFollows}
+use Rattle.protocol.specs.Follows.{lease_from, Agrees, Works, Begins_work, Goes_on, Speaks, Follows, SavedAgrees, Shows, IsFarm, SafeAfter, SafeBetween, EveryScheduleIsSafe, EveryScheduleStaysSafe, EveryEventIsMoves, FollowsOk, EveryDecision, EveryDecisionFollows}
 use Rattle.protocol.proofs.Base.{any_in, from_any, in_one, eqb_same, true_false, none_some, some_is, in_left, put_same, put_other, nth_in, node_is, in_map, from_map, from_filter}
 use Rattle.farm_base.specs.declared.message.FromCoord.TheVariants as message
 use Rattle.protocol.proofs.Steps.{Sound, same_grant, live_apart, made_below}
@@ -88,12 +88,12 @@ step_more empty pool more m m' (Raises t le) = Raises t le
 
 says_more : (empty : Digest) (pool more : List Message) (m : Machine) (y : FromCoord) → Says empty pool m y → Says empty (pool ++ more) m y
 says_more empty pool more m y (Says_granted g live) = Says_granted g live
-says_more empty pool more m y (Says_committed g versions made all some) = Says_committed g versions made all some
+says_more empty pool more m y (Says_committed n l t news versions i all some) = Says_committed n l t news versions (in_left (commit n l t news) pool more i) all some
 says_more empty pool more m y (Says_fenced n l t news i refused off) = Says_fenced n l t news (in_left (commit n l t news) pool more i) refused off
 says_more empty pool more m y (Says_denied n l a why wants tenure i) = Says_denied n l a why wants tenure (in_left (acquire n l a wants tenure) pool more i)
 says_more empty pool more m y (Says_recall g live tenure) = Says_recall g live tenure
 
-agrees_more : (empty : Digest) (pool more : List Message) (m : Machine) (q : Ledger) → Agrees empty pool m q → Agrees empty (pool ++ more) m q
+pub agrees_more : (empty : Digest) (pool more : List Message) (m : Machine) (q : Ledger) → Agrees empty pool m q → Agrees empty (pool ++ more) m q
 agrees_more empty pool more m q a = record {
   live_made = a.live_made;
   live_kept = a.live_kept;
@@ -126,7 +126,7 @@ map-push [] y = refl
 map-push (x ∷ xs) y = (let r = map-push xs y in λ i. Told x ∷ r i)
 
 -- work is moves of the machine, and what it says
-works_moves : (sha : List ℕ → Digest) (u : World) (m : Machine) (sends : List FromCoord) → u.down ≡ None → Works (sha []) u.pool u.machine m sends → Moves sha u (record u { machine = m; pool = u.pool ++ map Told sends })
+pub works_moves : (sha : List ℕ → Digest) (u : World) (m : Machine) (sends : List FromCoord) → u.down ≡ None → Works (sha []) u.pool u.machine m sends → Moves sha u (record u { machine = m; pool = u.pool ++ map Told sends })
 works_moves sha u m sends up Begins_work = subst (λ p. Moves sha u (record u { pool = p })) (sym (append-nil u.pool)) (Still u)
 works_moves sha u m sends up (Goes_on a b ss works step) =
     let before = works_moves sha u a ss up works in
@@ -146,8 +146,6 @@ moves_trans sha a b c p (Then x v y moves move) = Then a v c (moves_trans sha a 
 sent_in : (sha : List ℕ → Digest) (u : World) → Inv sha u → Sent u.pool u.machine
 sent_in sha u inv = record {
   tenures = λ n l a wants tenure i. (inv.messages (acquire n l a wants tenure) i).1;
-  commits = λ n l t news i. (let ok = inv.messages (commit n l t news) i in (ok.0, ok.1.0, ok.1.1, ok.1.2, ok.1.3, ok.2, ok.3));
-  releases = λ n l t i. (let ok = inv.messages (release n l t) i in (ok.0, ok.1.0, ok.1.1, ok.1.2, ok.1.3));
 }
 
 -- a node's event finds the world's machine, ends nothing, adds nothing to a line, and is not the coordinator's
@@ -1502,20 +1500,22 @@ follows_ok : (k : Limits) (fits : k.instances ≤ 4096) (pool : List Message) (m
 follows_ok k fits pool m sound sent ends (Ok w) h = h
 follows_ok k fits pool m sound sent ends (Err e) h = tt
 
+-- the decisions on a ledger that agrees with a sound machine, where tenures are asked for rightly
+pub decisions_follow : (k : Limits) → k.instances ≤ 4096 → (pool : List Message) (m : Machine) → Sound k.empty m → Sent pool m → (q : Ledger) → Agrees k.empty pool m q → EveryDecision k pool m q
+decisions_follow k fits pool m sound sent q agrees = record {
+  message = λ y asked. others.handled_follows k fits pool m sound sent y q agrees asked;
+  own = owning.only_its_own k pool m q sound agrees;
+  commit_taken = deciding.commit_taken k pool m sound q agrees;
+  release_taken = deciding.release_taken k pool m sound q agrees;
+  withdraw_taken = others.withdraw_taken k fits pool m sound sent q agrees;
+  withdraw = λ t. follows_ok k fits pool m sound sent (WithdrawEnds t) (withdrawn k t (begin_work q)) (others.withdrawn_follows k fits pool m sound sent t q agrees);
+  retire = λ n. follows_ok k fits pool m sound sent (RetireEnds n) (retired k n (begin_work q)) (others.retired_follows k fits pool m sound sent n q agrees);
+  prune = λ s. follows_ok k fits pool m sound sent NoEnds (pruned k s (begin_work q)) (others.pruned_follows k fits pool m sound sent s q agrees);
+  nudge = others.nudged_follows k fits pool m sound sent q agrees;
+  restart = others.reread_follows k fits pool m sound sent q agrees;
+}
+
 pub every_decision_follows : EveryDecisionFollows
 every_decision_follows sha k farm u moves q agrees =
     let i : Inv sha u = (moves_inv sha (start sha) u (start_whole sha) moves).0.now in
-    let sound : Sound k.empty u.machine = subst (λ z. Sound z u.machine) (sym farm.empty) i.sound in
-    let sent = sent_in sha u i in
-    record {
-      message = λ y asked. others.handled_follows k farm.instances u.pool u.machine sound sent y q agrees asked;
-      own = owning.only_its_own k u.pool u.machine q sound agrees;
-      commit_taken = deciding.commit_taken k u.pool u.machine sound q agrees;
-      release_taken = deciding.release_taken k u.pool u.machine sound q agrees;
-      withdraw_taken = others.withdraw_taken k farm.instances u.pool u.machine sound sent q agrees;
-      withdraw = λ t. follows_ok k farm.instances u.pool u.machine sound sent (WithdrawEnds t) (withdrawn k t (begin_work q)) (others.withdrawn_follows k farm.instances u.pool u.machine sound sent t q agrees);
-      retire = λ n. follows_ok k farm.instances u.pool u.machine sound sent (RetireEnds n) (retired k n (begin_work q)) (others.retired_follows k farm.instances u.pool u.machine sound sent n q agrees);
-      prune = λ s. follows_ok k farm.instances u.pool u.machine sound sent NoEnds (pruned k s (begin_work q)) (others.pruned_follows k farm.instances u.pool u.machine sound sent s q agrees);
-      nudge = others.nudged_follows k farm.instances u.pool u.machine sound sent q agrees;
-      restart = others.reread_follows k farm.instances u.pool u.machine sound sent q agrees;
-    }
+    decisions_follow k farm.instances u.pool u.machine (subst (λ z. Sound z u.machine) (sym farm.empty) i.sound) (sent_in sha u i) q agrees

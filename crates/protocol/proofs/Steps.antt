@@ -320,7 +320,7 @@ module _ (empty : Digest) (m : Machine) (sound : Sound empty m) (t : Ticket) (p 
   }
 
 -- what the coordinator knows of nodes and asks has no part in it
-others_sound : (empty : Digest) (m : Machine) (old_home : Option NodeId) (gone : ℕ → Bool) (lives : ℕ → ℕ) (parked : List Parked) → Sound empty m
+pub others_sound : (empty : Digest) (m : Machine) (old_home : Option NodeId) (gone : ℕ → Bool) (lives : ℕ → ℕ) (parked : List Parked) → Sound empty m
     → Later empty m (record m { old_home = old_home; gone = gone; lives = lives; parked = parked }) × Sound empty (record m { old_home = old_home; gone = gone; lives = lives; parked = parked })
 others_sound empty m old_home gone lives parked sound = (
   record { made = λ x i. i; ending = λ t y e. e; lines = λ s. front_refl (line empty m s); last = omega arith },

@@ -68,6 +68,20 @@ module _ (k : Limits) where
     | inr r ↦ subst (λ l. Waits l ps) (sym r.4) (waits_give w.ledger.live r.0 p ps r.1 r.2 r.3 other waiting)
   ]
 
+  -- a lease after the tries is one of before, or one of an ask that was tried
+  pub try_new : (ps : List Parked) (w : Work) (h : Lease) → In h (try_all k ps w).ledger.live → In h w.ledger.live ⊎ ((p : Parked) × In p ps × (h.node ≡ p.node) × (h.life ≡ p.life))
+  try_new [] w h i = inl i
+  try_new (p ∷ ps) w h i = elim (try_new ps (tried k p w) h i) [
+    | inr r ↦ inr (r.0, inr r.1, r.2, r.3)
+    | inl now ↦ elim (tried_live p w) [
+      | inl e ↦ inl (subst (In h) e now)
+      | inr r ↦ elim (in_append h w.ledger.live (r.0 ∷ []) (subst (In h) r.4 now)) [
+        | inl old ↦ inl old
+        | inr new ↦ (let same : h ≡ r.0 = in_one h r.0 new in inr (p, inl refl, ap (λ (z : Lease). z.node) same ∙ r.1, ap (λ (z : Lease). z.life) same ∙ r.2))
+      ]
+    ]
+  ]
+
   pub try-gone : (ps : List Parked) (w : Work) → (try_all k ps w).ledger.gone ≡ w.ledger.gone
   try-gone [] w = refl
   try-gone (p ∷ ps) w = try-gone ps (tried k p w) ∙ tried-gone p w

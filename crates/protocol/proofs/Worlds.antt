@@ -34,7 +34,7 @@ module _ (sha : List ℕ → Digest) (w : World) (inv : Inv sha w) where
     ahead_all : (j : ℕ) → Ahead (w.nodes j) (put n.0 x' w.nodes j)
     ahead_all = put_all (λ j y. Ahead (w.nodes j) y) n.0 x' w.nodes (act_ahead sha w inv n sends x' act) (λ j ne. ahead_refl (w.nodes j))
 
-    act_inv : Inv sha after_act
+    pub act_inv : Inv sha after_act
     act_inv = record {
       sound = inv.sound;
       messages = λ y i. elim (in_append y w.pool sends i) [
@@ -91,7 +91,7 @@ module _ (sha : List ℕ → Digest) (w : World) (inv : Inv sha w) where
   step_asked m' (Unparks ps part) g i = inv.asked g i
   step_asked m' (Raises t le) g i = inv.asked g i
 
-  step_inv : (m' : Machine) → Step (sha []) w.pool w.machine m' → Inv sha (record w { machine = m' })
+  pub step_inv : (m' : Machine) → Step (sha []) w.pool w.machine m' → Inv sha (record w { machine = m' })
   step_inv m' step =
       let both = step_sound (sha []) w.pool w.machine m' inv.sound step in
       record {
@@ -103,7 +103,7 @@ module _ (sha : List ℕ → Digest) (w : World) (inv : Inv sha w) where
       }
 
   -- what the machine says is so
-  in_made_line : (s : Slot) (v : LineVersion) (z : Made) (xs : List Made) → In z xs → In v (added (sha []) s w.machine.ending z) → In v (line_of (sha []) s w.machine.ending xs)
+  pub in_made_line : (s : Slot) (v : LineVersion) (z : Made) (xs : List Made) → In z xs → In v (added (sha []) s w.machine.ending z) → In v (line_of (sha []) s w.machine.ending xs)
   in_made_line s v z [] i h = absurd i
   in_made_line s v z (y ∷ xs) (inl p) h = in_right v (line_of (sha []) s w.machine.ending xs) (added (sha []) s w.machine.ending y) (subst (λ k. In v (added (sha []) s w.machine.ending k)) p h)
   in_made_line s v z (y ∷ xs) (inr i) h = in_left v (line_of (sha []) s w.machine.ending xs) (added (sha []) s w.machine.ending y) (in_made_line s v z xs i h)
@@ -148,7 +148,7 @@ module _ (sha : List ℕ → Digest) (w : World) (inv : Inv sha w) where
 
   say_ok : (y : FromCoord) → Says (sha []) w.pool w.machine y → ToldOk (sha []) w.machine y
   say_ok y (Says_granted g live) = live.0
-  say_ok y (Says_committed g versions made all some) = (all, some)
+  say_ok y (Says_committed n l t news versions i all some) = (all, some)
   say_ok y (Says_fenced n l t news i refused off) =
       let ok = inv.messages (commit n l t news) i in
       let given = ok.1 in
@@ -156,7 +156,7 @@ module _ (sha : List ℕ → Digest) (w : World) (inv : Inv sha w) where
   say_ok y (Says_denied n l a why wants tenure sent) = tt
   say_ok y (Says_recall g live tenure) = tt
 
-  say_inv : (y : FromCoord) → Says (sha []) w.pool w.machine y → Inv sha (record w { pool = w.pool ++ Told y ∷ [] })
+  pub say_inv : (y : FromCoord) → Says (sha []) w.pool w.machine y → Inv sha (record w { pool = w.pool ++ Told y ∷ [] })
   say_inv y says = record {
     sound = inv.sound;
     messages = λ z i. elim (in_append z w.pool (Told y ∷ []) i) [

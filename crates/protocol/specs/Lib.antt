@@ -12,4 +12,6 @@ pub mod Reasons
 pub mod Follows
 pub mod Chronicle
 pub mod Lawful
+pub mod Hostile
 pub mod Processes
+pub mod HostileProcesses

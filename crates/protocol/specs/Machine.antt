@@ -284,11 +284,12 @@ Stands empty machine ticket version =
 -- what the machine may say, as it stands
 pub data Says (empty : Digest) (pool : List Message) (machine : Machine) : FromCoord → Type 0 where
   Says_granted : (grant : Grant) → Live machine grant → Says empty pool machine (told.Granted grant)
-  Says_committed : (grant : Grant) (versions : List Confirmed)
-      → In (Granted grant) machine.made
-      → ((version : Confirmed) → In version versions → Stands empty machine grant.ticket version)
+  -- to whoever sent the Commit. Where the ticket isn't its own it learns of versions that stand, and ends nothing
+  Says_committed : (node : NodeId) (life : Life) (ticket : Ticket) (news : List News) (versions : List Confirmed)
+      → In (commit node life ticket news) pool
+      → ((version : Confirmed) → In version versions → Stands empty machine ticket version)
       → (versions ≢ [])
-      → Says empty pool machine (told.Committed grant.node grant.life grant.ticket versions)
+      → Says empty pool machine (told.Committed node life ticket versions)
   Says_fenced : (node : NodeId) (life : Life) (ticket : Ticket) (news : List News)
       → In (commit node life ticket news) pool
       → ((grant : Grant) → Live machine grant

@@ -39,7 +39,7 @@ Falling (given ∷ made) = ((older : Made) → In older made → ticket_of older
 
 module _ (sha : List ℕ → Digest) where
   -- the line of the slot in the world
-  abbrev line_in : World → Slot → List LineVersion
+  abbrev pub line_in : World → Slot → List LineVersion
   line_in world slot = line (sha []) world.machine slot
 
   -- what holds in every world that a run comes to

@@ -3,6 +3,8 @@ ghost use Rattle.protocol.specs.Follows.{EveryScheduleIsSafe, EveryScheduleStays
 ghost use Rattle.protocol.specs.Chronicle.{EveryScheduleHasAChronicle, EveryScheduleMeans, EveryVersionIsAnswered, NoParkedAskIsReady, FittingMessageIsGranted, NoParkedAskCouldBeGranted, EveryAskIsAnswered, EveryFarmIsSaved, EveryRecordCovers, RestartReadsTheRecord};
 ghost use Rattle.protocol.specs.Lawful.{EveryLedgerStaysLawful, EveryFarmStaysLawful, EveryOpeningIsLawful};
 ghost use Rattle.protocol.specs.Processes.{EveryFarmIsProcesses, OnlyHonestAreAFarm, ProcessesAreTheFarm, ProcessesStaySafe, WithdrawnStaysOut};
+ghost use Rattle.protocol.specs.Hostile.{EveryRaidIsSafe, EveryRaidStaysSafe, EveryRaidedDecisionFollows, EveryMessageTouchesItsOwn, EveryNodeCanBePutOut};
+ghost use Rattle.protocol.specs.HostileProcesses.{RaidedProcessesAreAFarm, RaidedProcessesStaySafe, RaidedWithdrawnStaysOut};
 ghost use Rattle.protocol.specs.Safe.{EveryRunIsSafe, EveryRunStaysSafe};
 
 /// Every run of the world is safe, and stays so from any world to any later one: whatever is sent, lost,
@@ -96,4 +98,30 @@ pub fn processes_are_the_farm()
     ensures withdrawn { WithdrawnStaysOut }
     ensures honest { OnlyHonestAreAFarm }
     ensures all { EveryFarmIsProcesses }
+{}
+
+/// Some nodes were taken over, and whoever did so writes any line under their keys, at any time, beside what the rules
+/// let all others do. What such a node spoils is what it was leased: each version on a line is of its ticket's own node
+/// and lease, or of a prune; no lease ends but by its own node's word or the operator's; honest nodes hold one content
+/// for a version and share no PRIVATE or SHARED slot; and of a retired node nothing counts any more.
+pub fn a_hostile_node_spoils_only_what_it_was_leased()
+    ensures safe { EveryRaidIsSafe }
+    ensures stays { EveryRaidStaysSafe }
+    ensures decisions { EveryRaidedDecisionFollows }
+{}
+
+/// So it is of the processes, whatever lines come under the keys of the nodes that were taken over: they are a raided
+/// farm, on whose disk lines only grow, and whose honest nodes hold one content for a version.
+pub fn raided_processes_are_a_raided_farm()
+    ensures farm { RaidedProcessesAreAFarm }
+    ensures safe { RaidedProcessesStaySafe }
+    ensures withdrawn { RaidedWithdrawnStaysOut }
+{}
+
+/// Whatever message comes, sent or not, it touches no lease, line, life or retirement but of its own node: a line gets
+/// at most one version, under a lease of that node and life which may write the slot; and one of a retired node does
+/// nothing. And a Hello of a node's greatest life puts it out: it has no lease then, and can be retired.
+pub fn a_message_touches_only_its_own()
+    ensures touches { EveryMessageTouchesItsOwn }
+    ensures out { EveryNodeCanBePutOut }
 {}

@@ -1,5 +1,5 @@
 -- The MAC of a line.
-use Rattle.std.proofs.Common.{◌≡◌, ℕ, zero, suc, ◌+◌, ◌-◌, ◌*◌, ◌<◌, List, [], ◌∷◌, ◌++◌, take, drop, length, slice_index, get_or, replicate, set, refl, sym, ap, ◌∙◌, arith, length-append, length-take}
+use Rattle.std.proofs.Common.{◌≡◌, ℕ, zero, suc, ◌+◌, ◌-◌, ◌*◌, ◌<◌, List, [], ◌∷◌, ◌++◌, take, drop, length, slice_index, get_or, replicate, set, refl, sym, ap, ◌∙◌, arith, length-append}
 use Rattle.std.proofs.lemmas.List.{take_at, drop_at, take_more, take_more_set, map-append, drop-replicate}
 use Rattle.std.specs.Prelude.{bit_xor}
 use Rattle.std.proofs.Math.Seq.{take-length}

@@ -3,12 +3,13 @@ ghost use Rattle.std.specs.Prelude.{◌≡◌, ◌↔◌, ◌<◌, ◌≤◌, �
 ghost use Rattle.sha2.specs.Hashers.{Holds256};
 ghost use Rattle.sha2.specs.Sha256.{sha256};
 ghost use Rattle.seals.specs.Hashers.{HasTaken};
-ghost use Rattle.seals.specs.Macs.{key_block, block_xor, hmac_sha256, without_end};
+ghost use Rattle.seals.specs.Macs.{key_block, block_xor, hmac_sha256, without_end, node_name, node_key};
+ghost use Rattle.std.specs.String.{string_bytes};
 
 use super::refusal::KeyRefusal;
-use names::Digest;
+use names::{Digest, NodeId};
 use sha2::Sha256;
-use std::alloc::Global;
+use std::alloc::{AllocError, Global};
 use std::marker::Model;
 
 /// The length of a block of SHA-256.
@@ -100,6 +101,19 @@ pub fn mac(key: &[u8], text: &[u8]) -> Digest
     KeyedHashers::of(key).mac(text)
 }
 
+/// What is said of a node and an epoch to make its key.
+fn node_name(alloc: Global, node: NodeId, epoch: u64) -> Result<String, AllocError>
+    ensures { IfOk result (λ name. string_bytes name ≡ node_name node.0 epoch) }
+{
+    let mut name = String::from_str(alloc, "key of node ")?;
+    let number = node.0.to_string(alloc)?;
+    let epoch = epoch.to_string(alloc)?;
+    name.push_str(number.as_str())?;
+    name.push_str(" in epoch ")?;
+    name.push_str(epoch.as_str())?;
+    Ok(name)
+}
+
 /// The key that the processes of a farm share, which contracts see as its bytes. It has at least 32.
 #[derive(Drop)]
 pub struct FarmKey {
@@ -143,6 +157,20 @@ impl FarmKey {
         ensures { result ≡ record { 0 = hmac_sha256 self.now text.now } }
     {
         self.hashers.mac(text)
+    }
+
+    /// The key of a node in an epoch, which that node and the coordinator alone have. This key is the farm's then: it
+    /// seals nothing.
+    pub fn of_node(&self, alloc: Global, node: NodeId, epoch: u64) -> Result<FarmKey, AllocError>
+        ensures { IfOk result (λ key. key ≡ node_key self.now node.0 epoch) }
+    {
+        let name = node_name(alloc, node, epoch)?;
+        let mac = self.mac(name.as_bytes());
+        let mut digits = [0; 64];
+        hex::encode_to_slice(mac.0, &mut digits).unwrap();
+        let hashers = KeyedHashers::of(&digits);
+        let bytes = Vec::from_slice(alloc, digits.as_slice())?;
+        Ok(FarmKey { bytes, hashers })
     }
 }
 
