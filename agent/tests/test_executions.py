@@ -110,7 +110,7 @@ class Runs:
         mark = f"sleep 741.8{os.getpid()}"
         text = (
             f"import sys; sys.path.insert(0, {support.TOP!r})\n"
-            "from agent.executions import Executions\n"
+            "from agent.runs.executions import Executions\n"
             f"e = Executions({self.room!r}); e.has_namespaces = {self.namespace}\n"  # type: ignore[attr-defined]
             f"x = e.start(['sh', '-c', 'setsid {mark} & {mark}'], '/', {{'PATH': '/bin:/usr/bin'}}, [0, 1, 2], [])\n"
             "x.wait(700)\n"

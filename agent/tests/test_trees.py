@@ -402,7 +402,7 @@ class Paths(support.RoomTest):
         shutil.copytree(self.path("home"), self.path("copy"))
         text = (
             f"import sys, time; sys.path.insert(0, {support.TOP!r})\n"
-            "from agent.places import Places\n"
+            "from agent.folders.places import Places\n"
             f"with Places({self.path('home')!r}).held({self.path('w')!r}):\n"
             "    print('held', flush=True); time.sleep(600)\n"
         )
@@ -422,7 +422,7 @@ class Paths(support.RoomTest):
         """A path is held also against agents of other homes that want what is around it, however deep it lies."""
         text = (
             f"import sys, time; sys.path.insert(0, {support.TOP!r})\n"
-            "from agent.places import Places\n"
+            "from agent.folders.places import Places\n"
             f"with Places({self.path('home')!r}).held({self.path('w/' + '/'.join('abcdefghijklmnopqrstuvwxyz'))!r}):\n"
             "    print('held', flush=True); time.sleep(600)\n"
         )
@@ -441,7 +441,7 @@ class Paths(support.RoomTest):
         text = (
             f"import sys; sys.path.insert(0, {support.TOP!r})\n"
             "from unittest import mock\n"
-            "from agent.places import Places\n"
+            "from agent.folders.places import Places\n"
             f"places = Places({self.path('home')!r})\n"
             f"with places.held({self.path('w')!r}):\n"
             f"    places.fill(mock.Mock(), b'index', {self.path('w')!r})\n"
@@ -577,7 +577,7 @@ class Paths(support.RoomTest):
         home = self.path("home")
         text = (
             f"import sys, time; sys.path.insert(0, {support.TOP!r})\n"
-            "from agent.places import Places\n"
+            "from agent.folders.places import Places\n"
             f"with Places({home!r}).rooms.room() as room:\n"
             "    print(room, flush=True); time.sleep(600)\n"
         )

@@ -19,11 +19,14 @@ from typing import Any, Callable
 sys.dont_write_bytecode = True
 sys.path.insert(0, str(Path(__file__).resolve().parents[2]))
 
-from agent import cli, places, redis_store, serving, store  # noqa: E402
+from agent import cli  # noqa: E402
 from agent.filters.lines import Answer  # noqa: E402
 from agent.filters.node import NodeAgent  # noqa: E402
-from agent.transport.redis import RedisTransport  # noqa: E402
+from agent.folders import places  # noqa: E402
+from agent.service import serving  # noqa: E402
+from agent.store import folder, redis  # noqa: E402
 from agent.transport.local import LocalTransport, Transport, address_of  # noqa: E402
+from agent.transport.redis import RedisTransport  # noqa: E402
 from agent.words import EMPTY  # noqa: E402
 
 KEPT = 300  # old lines from which one is repeated
@@ -144,7 +147,7 @@ def main() -> int:
     made.LocalTransport = lambda: disturbed(dice, LocalTransport())
     made.RedisTransport = lambda url, farm: disturbed(dice, RedisTransport(url, farm))
     if said.get("wrong") == "early":
-        wrong: Any = redis_store.RedisStore if "--broker" in sys.argv else store.FolderStore
+        wrong: Any = redis.RedisStore if "--broker" in sys.argv else folder.FolderStore
         wrong.publish = publish_late(wrong.publish)
     if said.get("wrong") == "stale":
         folders: Any = places.Places
