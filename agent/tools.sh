@@ -39,6 +39,7 @@ buildah buildah
 busybox busybox-static
 redis-server redis-server
 python:mypy python3-mypy
+python:pyflakes python3-pyflakes
 ip iproute2
 chromium chromium
 END

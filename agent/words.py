@@ -4,14 +4,13 @@ Owes the filters nothing that safety rests on: a filter reads each word again an
 """
 from __future__ import annotations
 
-import hashlib
 import os
 import re
 from typing import NamedTuple
 
 from agent.faults import UsageFault
 
-EMPTY = hashlib.sha256(b"").hexdigest()  # the content of a folder that has no version
+EMPTY = "e3b0c44298fc1c149afbf4c8996fb92427ae41e4649b934ca495991b7852b855"  # of no bytes: the content of a folder that has no version
 SHARINGS = ("shared", "private", "locked")
 MOST_FOLDERS = 16  # of one lease
 FOLDER = re.compile(r"(shared|private|locked):((?:[!-\"$&-?A-~]|%[0-9A-F]{2})*)(@[0-9a-f]{64}\.\d{1,19})?")
@@ -33,6 +32,8 @@ def is_folder(text: str) -> bool:
 
 def short_name(text: str, kind: str = "farm") -> str:
     """A plain file name for any text: no id becomes a path."""
+    import hashlib  # commands that only ask an agent do without
+
     digest = hashlib.sha256(os.fsencode(text)).hexdigest()
     return f"{kind}-{digest[:32]}"
 

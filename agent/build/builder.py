@@ -43,7 +43,7 @@ def check_tag(tag: str) -> None:
         raise UsageFault(f"{tag!r} can't be an image's name: it is spelled [REGISTRY/]NAME[:TAG], and NAME is in small letters")
 
 
-@dataclass
+@dataclass(frozen=True, kw_only=True)
 class Image:
     """What is to be built."""
 

@@ -8,7 +8,6 @@ import contextlib
 import os
 import tempfile
 import threading
-from dataclasses import dataclass, field
 
 from agent.build import dockerfile
 from agent.build.builder import Buildah, Builder, Image, check_tag
@@ -17,10 +16,8 @@ from agent.build.dockertext import BadDockerfile
 from agent.faults import BAD_DOCKERFILE, FENCED_BUILD, LOST, FarmFault
 from agent.filters.node import NodeAgent
 from agent.runs.run import Job, Run
+from agent.service.requests import BuildRequest
 from agent.words import Want
-
-# What of a caller's environment a build gets.
-PASSED = ("http_proxy", "https_proxy", "no_proxy", "HTTP_PROXY", "HTTPS_PROXY", "NO_PROXY")
 
 OF_SHARED = "One node at a time has a shared folder: --shared-as locked or private treats such mounts otherwise"
 
@@ -31,38 +28,19 @@ class Refused(FarmFault):
     status = BAD_DOCKERFILE
 
 
-@dataclass
-class BuildAsked:
-    context: str
-    cwd: str
-    file: str | None = None
-    tag: str | None = None
-    target: str | None = None
-    build_args: dict[str, str] = field(default_factory=dict)
-    format: str | None = None
-    wait: float | None = None
-    on_lost: str = "go-on"
-    shared_as: str = "shared"
-    keep_failed: bool = False
-    tag_fenced: bool = False
-    env: dict[str, str] = field(default_factory=dict)
-
-    def __post_init__(self) -> None:
-        if self.tag is not None:
-            check_tag(self.tag)
-
-    def dockerfile(self) -> str:
-        if not os.path.isdir(self.context):
-            raise Refused(f"{self.context} is no folder of this machine, as a build's context has to be")
-        names = [f"{self.context}/Containerfile", f"{self.context}/Dockerfile"]
-        if self.file:
-            names = [os.path.join(self.cwd, self.file), os.path.join(self.context, self.file)]
-        found = next((name for name in names if os.path.isfile(name)), None)
-        if found is None:
-            raise Refused(f"there is no {names[-1]}")
-        if found.endswith(".in"):
-            raise Refused(f"{found}: the builder would run it through cpp")
-        return found
+def dockerfile_of(request: BuildRequest) -> str:
+    """The path of the Dockerfile that is to be built."""
+    if not os.path.isdir(request.context):
+        raise Refused(f"{request.context} is no folder of this machine, as a build's context has to be")
+    names = [f"{request.context}/Containerfile", f"{request.context}/Dockerfile"]
+    if request.file:
+        names = [os.path.join(request.cwd, request.file), os.path.join(request.context, request.file)]
+    found = next((name for name in names if os.path.isfile(name)), None)
+    if found is None:
+        raise Refused(f"there is no {names[-1]}")
+    if found.endswith(".in"):
+        raise Refused(f"{found}: the builder would run it through cpp")
+    return found
 
 
 class Builds:
@@ -111,11 +89,13 @@ class Builds:
 class Build:
     """A build for a caller."""
 
-    def __init__(self, builds: Builds, asked: BuildAsked, caller: Caller) -> None:
+    def __init__(self, builds: Builds, asked: BuildRequest, caller: Caller) -> None:
+        if asked.tag is not None:
+            check_tag(asked.tag)
         self.builds, self.asked, self.caller = builds, asked, caller
 
     def run(self) -> int:
-        path = self.asked.dockerfile()
+        path = dockerfile_of(self.asked)
         plan = self._plan(path)
         room = self.builds.enter()
         status = -1
@@ -146,8 +126,8 @@ class Build:
             file.write(plan.text)
         ignored = f"{path}.dockerignore"
         image = Image(
-            asked.context, f"{room}/Dockerfile", room, asked.build_args, asked.target and plan.target, asked.format,
-            ignored if os.path.exists(ignored) else None, asked.env,
+            context=asked.context, dockerfile=f"{room}/Dockerfile", room=room, build_args=asked.build_args, target=asked.target and plan.target,
+            format=asked.format, ignore_file=ignored if os.path.exists(ignored) else None, env=asked.env,
         )
         command, env = builder.command(image)
         folders = plan.folders()
@@ -170,8 +150,8 @@ class Build:
                 builder.unwanted(image, want.path)
 
         job = Job(
-            command, asked.context, env, wants, asked.wait, asked.on_lost == "stop", asked.keep_failed, FENCED_BUILD, LOST, OF_SHARED,
-            filled, left,
+            command=command, cwd=asked.context, env=env, wants=wants, wait=asked.wait, stops_when_lost=asked.stops_when_lost,
+            keeps_failed=asked.keep_failed, fenced_status=FENCED_BUILD, lost_status=LOST, of_shared=OF_SHARED, filled=filled, left=left,
         )
         return self._settled(job, image)
 

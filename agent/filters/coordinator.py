@@ -9,7 +9,6 @@ import contextlib
 import tempfile
 import threading
 import time
-from typing import Any
 
 from agent.store.chunks import folder_size
 from agent.faults import FarmFault, LifeOver, UsageFault
@@ -18,6 +17,7 @@ from agent.filters.lines import Answer, Filter, FilterGone, Talk, line_of
 from agent.transport.needs import parts
 from agent.filters.node import HEARTBEAT, Setup
 from agent.transport.local import COORDINATOR, address_of, node_address
+from agent.service.operators import FolderStatus, Lease, Status, Version, Waiting
 from agent.words import DIGEST, is_folder
 
 NUDGE_MOST = 15.0
@@ -39,7 +39,7 @@ class CoordinatorAgent:
         self.since: dict[int, float] = {}  # of a ticket: when this agent saw it granted
         self.heard: dict[int, float] = {}  # of a node: the time of day at which it was heard
         self.spoke: dict[int, float] = {}  # of a node: the same by the clock that nobody sets
-        self.last: dict[str, tuple[int, list[dict[str, Any]]]] = {}  # of a slot: its last number, and its last versions
+        self.last: dict[str, tuple[int, tuple[Version, ...]]] = {}  # of a slot: its last number, and its last versions
         self.left: dict[int, tuple[int, set[int]]] = {}  # of a node: a life, and its asks for which nobody waits any more
         self.looked: dict[int, float] = {}  # of a node: when it was looked whether its leases live
         self.begun = time.monotonic()
@@ -160,7 +160,7 @@ class CoordinatorAgent:
             return
         self.looked[node] = now
         with contextlib.suppress(FarmFault):
-            for ticket in tickets - {int(lease["ticket"]) for lease in self.status()["leases"]}:
+            for ticket in tickets - {lease.ticket for lease in self.status().leases}:
                 self.setup.transport.send(node_address(node), self.hints.seal(f"ended {ticket} {node}"))
 
     def _tell_needed(self, node: int, word: str, keep: int) -> None:
@@ -177,63 +177,60 @@ class CoordinatorAgent:
     def holders(self, node: int, folders: set[str]) -> str:
         """Who has one of these folders, in words."""
         found = []
-        for lease in self.status()["leases"]:
-            slots = [slot for slot in lease["slots"] if slot.removeprefix("ro=").partition("#")[0] in folders]
+        for lease in self.status().leases:
+            slots = [slot for slot in lease.slots if slot.removeprefix("ro=").partition("#")[0] in folders]
             if slots:
-                seconds = f"for {time.time() - lease['since']:.0f} s" if lease["since"] else "since before this agent began"
-                found.append(f"node {lease['node']} has {', '.join(slots)} {seconds}, ticket {lease['ticket']}")
+                seconds = f"for {time.time() - lease.since:.0f} s" if lease.since else "since before this agent began"
+                found.append(f"node {lease.node} has {', '.join(slots)} {seconds}, ticket {lease.ticket}")
         return "; ".join(found)
 
     def _withdraw_silent(self) -> None:
         if self.lease_timeout is None:
             return
-        for lease in self.status()["leases"]:
-            silent = time.monotonic() - self.spoke.get(lease["node"], self.begun)
-            if silent > self.lease_timeout and lease["kind"] != "tenure":
-                self.log(f"node {lease['node']} wasn't heard for {silent:.0f} s: its lease {lease['ticket']} is withdrawn")
-                self.call(line_of("withdraw", str(lease["ticket"])))
+        for lease in self.status().leases:
+            silent = time.monotonic() - self.spoke.get(lease.node, self.begun)
+            if silent > self.lease_timeout and lease.kind != "tenure":
+                self.log(f"node {lease.node} wasn't heard for {silent:.0f} s: its lease {lease.ticket} is withdrawn")
+                self.call(line_of("withdraw", str(lease.ticket)))
 
     # What people ask.
 
-    def status(self, last: int = 0) -> dict[str, Any]:
+    def status(self, last: int = 0) -> Status:
         """Who has what and who waits; of each folder the last version, and as many versions as are wanted, newest first."""
-        told: dict[str, Any] = {"leases": [], "waiting": [], "folders": [], "lives": {}, "gone": [], "retired": [], "now": time.time()}
-        for fact in self.question("status").facts:
-            words = fact.split(" ")
-            if words[0] == "lease":
-                ticket, node, life, ask = (int(word) for word in words[1:5])
-                told["leases"].append({
-                    "ticket": ticket, "node": node, "life": life, "ask": ask, "kind": words[5], "slots": words[6:],
-                    "since": self.since.get(ticket),
-                })
-            elif words[0] == "parked":
-                node, life, ask = (int(word) for word in words[2:5])
-                left_of, asks = self.left.get(node, (0, set()))
-                told["waiting"].append({
-                    "kind": words[1], "node": node, "life": life, "ask": ask, "folders": words[5:], "left": life == left_of and ask in asks,
-                })
-            elif words[0] == "last":
-                number, ticket_word, digest = words[2].split(":")
-                told["folders"].append({"slot": words[1], "version": int(number), "ticket": int(ticket_word), "digest": digest})
-            elif words[0] == "life":
-                told["lives"][words[1]] = int(words[2])
-            elif words[0] == "gone":
-                told["gone"].append(int(words[1]))
-            elif words[0] == "retired":
-                told["retired"].append(words[1])
-            elif words[0] == "tickets":
-                told["tickets"] = int(words[1])
-        told["heard"] = {str(node): at for node, at in list(self.heard.items())}
-        for folder in told["folders"] if last else []:
-            folder["versions"] = self._last_versions(folder["slot"], folder["version"], last)
-        return told
+        facts = [fact.split(" ") for fact in self.question("status").facts]
 
-    def _last_versions(self, slot: str, number: int, count: int) -> list[dict[str, Any]]:
+        def of(kind: str) -> list[list[str]]:
+            return [words[1:] for words in facts if words[0] == kind]
+
+        return Status(
+            leases=tuple(map(self._lease, of("lease"))), waiting=tuple(map(self._waiting, of("parked"))),
+            folders=tuple(self._folder(words, last) for words in of("last")), lives={words[0]: int(words[1]) for words in of("life")},
+            gone=tuple(int(words[0]) for words in of("gone")), retired=tuple(words[0] for words in of("retired")),
+            tickets=max((int(words[0]) for words in of("tickets")), default=0), heard={str(node): at for node, at in list(self.heard.items())},
+            now=time.time(),
+        )
+
+    def _lease(self, words: list[str]) -> Lease:
+        ticket, node, life, ask = (int(word) for word in words[:4])
+        return Lease(ticket=ticket, node=node, life=life, ask=ask, kind=words[4], slots=tuple(words[5:]), since=self.since.get(ticket))
+
+    def _waiting(self, words: list[str]) -> Waiting:
+        node, life, ask = (int(word) for word in words[1:4])
+        left_of, asks = self.left.get(node, (0, set()))
+        left = life == left_of and ask in asks
+        return Waiting(kind=words[0], node=node, life=life, ask=ask, folders=tuple(words[4:]), left=left)
+
+    def _folder(self, words: list[str], last: int) -> FolderStatus:
+        number, ticket, digest = words[1].split(":")
+        versions = self._last_versions(words[0], int(number), last) if last else ()
+        return FolderStatus(slot=words[0], version=int(number), ticket=int(ticket), digest=digest, versions=versions)
+
+    def _last_versions(self, slot: str, number: int, count: int) -> tuple[Version, ...]:
         """Asked of the filter only where the folder has a new one."""
         known = self.last.get(slot)
         if known is None or known[0] != number or len(known[1]) < min(count, number):
             versions = self.versions(slot)[-count:][::-1]
-            known = self.last[slot] = (number, [version | {"size": self._size(version["digest"])} for version in versions])
+            known = self.last[slot] = (number, tuple(version._replace(size=self._size(version.digest)) for version in versions))
         return known[1][:count]
 
     def _size(self, digest: str) -> int | None:
@@ -244,18 +241,18 @@ class CoordinatorAgent:
         """The slots of a folder that have versions; a slot's own text names that one."""
         if not is_folder(folder.partition("#")[0]):
             raise UsageFault(f"{folder!r} is no folder")
-        found = [str(each["slot"]) for each in self.status()["folders"]]
+        found = [each.slot for each in self.status().folders]
         return [slot for slot in found if folder in (slot, slot.partition("#")[0])]
 
-    def versions(self, slot: str) -> list[dict[str, Any]]:
+    def versions(self, slot: str) -> list[Version]:
         facts = (fact.split(" ") for fact in self.question(line_of("line", slot)).facts)
-        return [{"version": int(words[0]), "ticket": int(words[1]), "digest": words[2]} for words in facts]
+        return [Version(version=int(words[0]), ticket=int(words[1]), digest=words[2]) for words in facts]
 
     def needed(self, keep: int) -> set[str]:
         """The digests of the last versions of each slot, and all that the filter says are needed."""
         needed = {fact for fact in self.question("needed").facts if DIGEST.fullmatch(fact)}
-        for each in self.status()["folders"]:
-            needed.update(version["digest"] for version in self.versions(each["slot"])[-keep:])
+        for each in self.status().folders:
+            needed.update(version.digest for version in self.versions(each.slot)[-keep:])
         return needed
 
     def operate(self, *words: str) -> str:

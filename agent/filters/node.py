@@ -37,7 +37,7 @@ REMEMBERED = 1024  # commits
 LACK_MOST, LACK_EVERY = 30.0, 5.0  # seconds for which chunks are asked for, and from one asking to the next
 
 
-@dataclass
+@dataclass(frozen=True, kw_only=True)
 class Setup:
     """What an agent is made of."""
 

@@ -24,7 +24,7 @@ from agent.words import MOST_FOLDERS, Grant, Slot, Want
 PATIENCE = 10.0  # seconds from the signal that asks a lost execution to stop to the one that ends it
 
 
-@dataclass
+@dataclass(frozen=True, kw_only=True)
 class Job:
     """A command and what it wants."""
 

@@ -9,10 +9,13 @@ import os
 import signal
 import socket
 from types import FrameType
-from typing import Any
+from typing import Any, TypeVar
 
 from agent.faults import LOST, FarmFault, UsageFault, tell
 from agent.runs.launch import PASSED
+from agent.service.carried import read, written
+
+Answer = TypeVar("Answer")
 
 
 class NoFarm(FarmFault):
@@ -23,19 +26,19 @@ class Asked:
     """What came of a request."""
 
     def __init__(self) -> None:
-        self.told: Any = None
+        self.told: object = None
         self.said: list[str] = []
         self.status = LOST
 
 
-def ask(path: str, what: dict[str, Any], shows: bool = True) -> Asked:
-    """Asks an agent. What it says goes to the standard error, line by line."""
+def ask(path: str, request: object, *, shows: bool = True, passes_signals: bool = False) -> Asked:
+    """Asks an agent. What it says goes to the standard error, line by line, where it is to be shown."""
     asked = Asked()
     with socket.socket(socket.AF_UNIX) as link:
         try:
             link.connect(path)
             socket.send_fds(link, [b"f"], [0, 1, 2])
-            link.sendall(json.dumps(what).encode() + b"\n")
+            link.sendall(written(request).encode() + b"\n")
         except (FileNotFoundError, ConnectionRefusedError):
             raise NoFarm(f"no farm answers at {path}: farm up starts one, or name the --home of its coordinator") from None
         except OSError as fault:
@@ -48,7 +51,7 @@ def ask(path: str, what: dict[str, Any], shows: bool = True) -> Asked:
                 pass
 
         heeded = [number for number in PASSED if signal.getsignal(number) != signal.SIG_IGN]  # the others its caller keeps off, as nohup does
-        before = {number: signal.signal(number, passes) for number in heeded} if what.get("signals") else {}
+        before = {number: signal.signal(number, passes) for number in heeded} if passes_signals else {}
         heard = False
         try:
             with link.makefile("rb") as stream:
@@ -73,12 +76,22 @@ def _take(asked: Asked, told: dict[str, Any], shows: bool) -> bool:
         asked.status = int(told["exit"])
         return True
     if "told" in told:
-        asked.told = told["told"]
+        asked.told = read(told["told"])
     elif told["say"]:
         asked.said.append(told["say"])
         if shows:
             tell(told["say"])
     return False
+
+
+def told_at(path: str, request: object, kind: type[Answer], *, shows: bool = True) -> Answer:
+    """What an agent tells, of the kind that answers this request. A refusal ends the command with its status."""
+    asked = ask(path, request, shows=shows)
+    if asked.status and shows:
+        raise SystemExit(asked.status)
+    if not isinstance(asked.told, kind):
+        raise FarmFault(" ".join(asked.said) or f"the agent at {path} tells no {kind.__name__}: does another version of it run?")
+    return asked.told
 
 
 def check_home(home: str) -> None:

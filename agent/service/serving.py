@@ -11,9 +11,8 @@ import sys
 import threading
 import time
 from dataclasses import dataclass, field
-from typing import Any
 
-from agent.build.builds import Build, Builds, BuildAsked
+from agent.build.builds import Build, Builds
 from agent.service.client import check_home
 from agent.filters.coordinator import SILENT_LEAST, CoordinatorAgent
 from agent.runs.executions import open_many
@@ -22,11 +21,16 @@ from agent.transport.hints import Hints, make_key
 from agent.filters.lines import line_of
 from agent.filters.node import NodeAgent, Setup
 from agent.folders.places import check_outside
+from agent.store.opened import farm_name, open_store
 from agent.store.redis import RedisStore
 from agent.transport.redis import RedisTransport
 from agent.runs.run import Job, Run
+from agent.service.operators import LogRequest, PruneRequest, RetireRequest, StatusRequest, Versions, WithdrawRequest
+from agent.service.requests import (
+    BuildRequest, Digests, ForgetRequest, Forgotten, NeededRequest, RunRequest, StorePlace, StoreRequest,
+)
 from agent.service.sockets import Connection, Handler, Service
-from agent.store.folder import FolderStore, Store, is_old
+from agent.store.folder import is_old
 from agent.tools import farm_program
 from agent.transport.local import LocalTransport, Transport
 from agent.words import DIGEST, want_of
@@ -34,13 +38,13 @@ from agent.words import DIGEST, want_of
 IDLE = 10.0  # seconds after which a farm that a command started for itself ends
 
 
-@dataclass
+@dataclass(frozen=True, kw_only=True)
 class Wanted:
     """What a process is to serve."""
 
     home: str
     coordinator: bool
-    nodes: list[int]
+    nodes: tuple[int, ...]
     most: int  # how many nodes the farm has
     broker: str | None = None
     contents: str | None = None  # the folder of a store that machines share
@@ -67,18 +71,6 @@ class Served:
             node.stop()
         if self.coordinator:
             self.coordinator.stop()
-
-
-def farm_name(hints: Hints) -> str:
-    """What the farm's keys in Redis begin with."""
-    return f"farm-{hints.name()}"
-
-
-def store_of(wanted: Wanted, hints: Hints) -> Store:
-    root = wanted.contents or f"{wanted.home}/contents"
-    if not wanted.broker or wanted.contents:
-        return FolderStore(root)
-    return RedisStore(wanted.broker, root, farm_name(hints), hints.chunk_key())
 
 
 def check(wanted: Wanted) -> None:
@@ -140,10 +132,10 @@ def setup_of(wanted: Wanted) -> Setup:
             with contextlib.suppress(OSError):  # what the filters say counts, whether anybody hears of it or not
                 print(f"{time.strftime('%H:%M:%S')} {text}", file=sys.stderr, flush=True)
 
-    store = store_of(wanted, hints)
+    store = open_store(wanted.home, wanted.broker, wanted.contents, hints)
     if isinstance(store, RedisStore) and not store.keeps_well():
         tell("Redis doesn't sync what it is given (appendonly yes, appendfsync always): its crash can lose contents")
-    return Setup(program, wanted.home, key, store, transport, log)
+    return Setup(program=program, home=wanted.home, key=key, store=store, transport=transport, log=log)
 
 
 def begin(wanted: Wanted) -> Served:
@@ -233,35 +225,39 @@ def _forget_pid(path: str) -> None:
             os.unlink(path)
 
 
-def answer_command(agent: NodeAgent, builds: Builds, wanted: Wanted, asked: dict[str, Any], link: Connection) -> int:
+def answer_command(agent: NodeAgent, builds: Builds, wanted: Wanted, request: object, link: Connection) -> int:
     """A request to a node."""
-    if asked["do"] in ("run", "build"):
+    if isinstance(request, RunRequest):
+        return run_of(agent, wanted, request, link).run()
+    if isinstance(request, BuildRequest):
         agent.check_retired()
-    if asked["do"] == "run":
-        uncounted = LOST if asked["must_commit"] else None
-        wants = [want_of(word) for word in asked["folders"]]
-        job = Job(
-            asked["command"], asked["cwd"], asked["env"], wants, asked["wait"], asked["on_lost"] == "stop",
-            fenced_status=uncounted, lost_status=uncounted, umask=asked["umask"],
-        )
-        run = Run(agent, job, link)
-        for path in run.paths.values():
-            for own in filter(None, (wanted.home, wanted.contents)):
-                check_outside(path, own)
-        return run.run()
-    if asked["do"] == "build":
-        return Build(builds, BuildAsked(**asked["build"]), link).run()
-    if asked["do"] == "forget":
+        return Build(builds, request, link).run()
+    if isinstance(request, ForgetRequest):
         agent.places.forget_gone()
-        link.tell(forget(agent, set(asked["needed"]), float(asked["grace"])))
+        link.tell(Forgotten(contents=forget(agent, set(request.needed), request.grace)))
         builds.sweep()
-    elif asked["do"] == "needed":
-        link.tell(sorted(agent.needed(int(asked["keep"]))))
-    elif asked["do"] == "store":
-        link.tell({"broker": wanted.broker, "contents": wanted.contents})
+    elif isinstance(request, NeededRequest):
+        link.tell(Digests(digests=tuple(sorted(agent.needed(request.keep)))))
+    elif isinstance(request, StoreRequest):
+        link.tell(StorePlace(broker=wanted.broker, contents=wanted.contents))
     else:
-        raise FarmFault(f"a node isn't asked to {asked['do']}")
+        raise FarmFault(f"a node answers no {type(request).__name__}")
     return 0
+
+
+def run_of(agent: NodeAgent, wanted: Wanted, request: RunRequest, link: Connection) -> Run:
+    """The run that a command asks for, none of whose folders lies within the farm's own."""
+    agent.check_retired()
+    uncounted = LOST if request.must_commit else None
+    job = Job(
+        command=list(request.command), cwd=request.cwd, env=request.env, wants=[want_of(word) for word in request.folders],
+        wait=request.wait, stops_when_lost=request.stops_when_lost, fenced_status=uncounted, lost_status=uncounted, umask=request.umask,
+    )
+    run = Run(agent, job, link)
+    for path in run.paths.values():
+        for own in filter(None, (wanted.home, wanted.contents)):
+            check_outside(path, own)
+    return run
 
 
 def forget(agent: NodeAgent, needed: set[str], grace: float) -> int:
@@ -272,28 +268,26 @@ def forget(agent: NodeAgent, needed: set[str], grace: float) -> int:
     return sum(not agent.call(line_of("forget", name)).is_refused for name in gone)
 
 
-def answer_operator(agent: CoordinatorAgent, wanted: Wanted, asked: dict[str, Any], link: Connection) -> int:
+def answer_operator(agent: CoordinatorAgent, wanted: Wanted, request: object, link: Connection) -> int:
     """A request to the coordinator."""
-    what = asked["do"]
-    if what == "status":
-        link.tell(agent.status(int(asked.get("last", 0))))
-    elif what == "log":
-        link.tell({slot: agent.versions(slot) for slot in agent.slots_of(asked["folder"])})
-    elif what == "withdraw":
-        link.say(agent.operate("withdraw", str(asked["ticket"])))
-    elif what == "retire":
-        link.say(agent.retire(int(asked["node"]), asked["gone"]))
-    elif what == "prune":
-        slots = agent.slots_of(asked["folder"])
+    if isinstance(request, StatusRequest):
+        link.tell(agent.status(request.last))
+    elif isinstance(request, LogRequest):
+        link.tell(Versions(slots={slot: tuple(agent.versions(slot)) for slot in agent.slots_of(request.folder)}))
+    elif isinstance(request, WithdrawRequest):
+        link.say(agent.operate("withdraw", str(request.ticket)))
+    elif isinstance(request, RetireRequest):
+        link.say(agent.retire(request.node, request.is_gone))
+    elif isinstance(request, PruneRequest):
+        slots = agent.slots_of(request.folder)
         if not slots:
-            raise FarmFault(f"{asked['folder']} has no version")
+            raise FarmFault(f"{request.folder} has no version")
         for slot in slots:
             link.say(f"{slot}: {agent.operate('prune', slot)}")
-    elif what == "needed":
-        link.tell(sorted(agent.needed(int(asked["keep"]))))
-    elif what == "store":
-        link.tell({"broker": wanted.broker, "contents": wanted.contents})
+    elif isinstance(request, NeededRequest):
+        link.tell(Digests(digests=tuple(sorted(agent.needed(request.keep)))))
+    elif isinstance(request, StoreRequest):
+        link.tell(StorePlace(broker=wanted.broker, contents=wanted.contents))
     else:
-        raise FarmFault(f"a coordinator isn't asked to {what}")
+        raise FarmFault(f"a coordinator answers no {type(request).__name__}")
     return 0
-

@@ -16,8 +16,10 @@ import traceback
 from typing import IO, Any, Callable
 
 from agent.faults import BAD_DOCKERFILE, FAULT, LOST, FarmFault, NodeRetired, sentence
+from agent.service.carried import read, written
+from agent.service.requests import NodeWasRetired
 
-Handler = Callable[[dict[str, Any], "Connection"], int]
+Handler = Callable[[object, "Connection"], int]  # answers a request; another one it refuses
 ENDING = (signal.SIGINT, signal.SIGTERM, signal.SIGHUP, signal.SIGQUIT)
 HELD_MOST = 10.0  # seconds for which a caller that was told to end waits for what holds its request up, as a folder that can't be reached
 
@@ -43,7 +45,7 @@ class Connection:
         self._write({"say": text})
 
     def tell(self, what: object) -> None:
-        self._write({"told": what})
+        self._write({"told": written(what)})
 
     def exit(self, status: int) -> None:
         self.over.set()
@@ -84,18 +86,18 @@ def answer(link: socket.socket, handler: Handler) -> None:
         connection = Connection(link, streams)
         threading.Thread(target=connection.listen, args=(reader,), daemon=True).start()
         connection.say("")  # it was heard
-        connection.exit(handled(handler, json.loads(raw), connection))
+        connection.exit(handled(handler, raw, connection))
     finally:
         for handle in streams:
             os.close(handle)
 
 
-def handled(handler: Handler, asked: dict[str, Any], connection: Connection) -> int:
+def handled(handler: Handler, raw: bytes, connection: Connection) -> int:
     """The status of a request; each fault is told in one sentence."""
     try:
-        return handler(asked, connection)
+        return handler(read(raw), connection)
     except NodeRetired as fault:
-        connection.tell({"retired": str(fault)})  # who asked knows whether another node will do
+        connection.tell(NodeWasRetired(why=str(fault)))  # who asked knows whether another node will do
         return fault.status
     except FarmFault as fault:
         connection.say(("refused: " if fault.status == BAD_DOCKERFILE else "") + str(fault))

@@ -16,10 +16,12 @@ import unittest
 from typing import Callable, Iterator
 from unittest import mock
 
-from agent import cli
-
+from agent.commands.main import main
+from agent.filters.node import Setup
 from agent.folders import trees
-from agent.store.folder import Store
+from agent.store.folder import FolderStore, Store
+from agent.transport.hints import make_key
+from agent.transport.local import Transport
 
 HERE = os.path.dirname(os.path.abspath(__file__))
 TOP = os.path.dirname(os.path.dirname(HERE))
@@ -82,6 +84,13 @@ class Heard:
         self.said.append(text)
 
 
+def setup_of(room: str, program: str, transport: Transport) -> Setup:
+    """What an agent of a test is made of."""
+    return Setup(
+        program=program, home=room, key=make_key(f"{room}/key"), store=FolderStore(f"{room}/contents"), transport=transport, log=lambda text: None
+    )
+
+
 class FarmTest(RoomTest):
     """A test with a farm of its own, over the stand-in for the filters, or the program that FARMCTL names."""
 
@@ -134,7 +143,7 @@ class FarmTest(RoomTest):
         """What a command that runs nothing says, in this process: that is faster."""
         said = io.StringIO()
         with mock.patch.dict("os.environ", self.env), contextlib.redirect_stdout(said), contextlib.redirect_stderr(said):
-            done = cli.main(words)
+            done = main(words)
         self.assertEqual(done, status, f"{words}: {said.getvalue()}")
         return said.getvalue()
 

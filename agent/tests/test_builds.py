@@ -126,7 +126,7 @@ class Unnamed(support.RoomTest):
         with socket.create_server(("127.0.0.1", 0)) as server:
             add = f"ADD http://127.0.0.1:{server.getsockname()[1]}/x /x\n"  # it is asked, and never answers
             for text in ("FROM scratch AS a\nCOPY f /f\nFROM a AS b\nCOPY f /g\nFROM b\n", f"FROM {user.removeprefix('sha256:')}\n"):
-                words, env = self.builder.command(Image(self.room, self.write("Dockerfile", text + add), self.room))
+                words, env = self.builder.command(Image(context=self.room, dockerfile=self.write("Dockerfile", text + add), room=self.room))
                 build = subprocess.Popen(words, env=env, stdout=subprocess.DEVNULL, stderr=subprocess.DEVNULL)
                 server.settimeout(support.PATIENCE)
                 link, _ = server.accept()
@@ -144,7 +144,7 @@ class Unnamed(support.RoomTest):
         user, rooms = self.image(), [self.path("empty"), self.path("one"), self.path("two")]
         for room in rooms[1:]:
             self.write("f", room)
-            words, env = self.builder.command(Image(self.room, self.write("Dockerfile", "FROM scratch\nCOPY f /g\n"), room))
+            words, env = self.builder.command(Image(context=self.room, dockerfile=self.write("Dockerfile", "FROM scratch\nCOPY f /g\n"), room=room))
             subprocess.run(words, env=env, check=True, capture_output=True)
         tagged = self.read("two/image")
         self.builder.tag(tagged, "app")

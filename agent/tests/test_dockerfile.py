@@ -138,7 +138,7 @@ class Dockerfiles(unittest.TestCase):
         self.assertEqual(made.mounts[0].folder, "shared:two%0Alines")
         with self.assertRaises(BadDockerfile):
             planned(f"FROM box\nARG I\nRUN {T},id=$I,target=/c true", I='a",target=/etc')
-        made = planned(f"FROM box\nARG I\nRUN --mount=$I true", I="type=cache,target=/a")
+        made = planned("FROM box\nARG I\nRUN --mount=$I true", I="type=cache,target=/a")
         self.assertEqual(made.mounts[0].target, "/a")
 
     def test_needed_stages(self) -> None:

@@ -20,14 +20,14 @@ from agent.runs.caller import Patience
 from agent.filters.coordinator import CoordinatorAgent
 from agent.runs.executions import can_have_namespaces
 from agent.faults import ClientGone, FarmFault, LifeOver, WaitOver
-from agent.transport.hints import make_key
 from agent.filters.lines import Answer
-from agent.filters.node import NodeAgent, Setup
+from agent.filters.node import NodeAgent
 from agent.transport.redis_wire import Redis
 from agent.runs.run import Job, Run
+from agent.service.carried import written
+from agent.service.requests import RunRequest, StoreRequest
 from agent.service.sockets import Connection, Service, handled
 from agent.folders.shared import SharedFolders, Tenure
-from agent.store.folder import FolderStore
 from agent.transport.local import COORDINATOR, LocalTransport
 from agent.words import EMPTY, Slot, Want
 
@@ -100,8 +100,9 @@ class Alone(support.FarmTest):
         os.makedirs(self.home)
         asked = list[Any]()
 
-        def answers(what: dict[str, Any], _link: Connection) -> int:
-            asked.append(what["command"])
+        def answers(request: object, _link: Connection) -> int:
+            assert isinstance(request, RunRequest)
+            asked.append(list(request.command))
             return 7
 
         def serve(name: str) -> None:
@@ -201,7 +202,7 @@ class Alone(support.FarmTest):
             "signal.signal(signal.SIGINT, signal.default_int_handler)\n"
             "class Finder:\n"
             "    def find_spec(self, name, *_):\n"
-            "        if name == 'agent.cli': os.kill(os.getpid(), signal.SIGINT)\n"
+            "        if name == 'agent.commands.parser': os.kill(os.getpid(), signal.SIGINT)\n"
             "sys.meta_path.insert(0, Finder())\n"
             f"runpy.run_path({FARM[-1]!r}, run_name='__main__')\n"
         )
@@ -587,7 +588,7 @@ class StoreFault(support.RoomTest):
         """A node whose disk failed it begins a new life, and so does one of which a later life was heard, which is told."""
         program = self.write("program", FAULTY)
         os.chmod(program, 0o755)
-        agent = NodeAgent(1, 1, Setup(program, self.room, make_key(self.path("key")), FolderStore(self.path("contents")), LocalTransport(), lambda text: None))
+        agent = NodeAgent(1, 1, support.setup_of(self.room, program, LocalTransport()))
         agent.talk.start()
         self.addCleanup(agent.stop)
         with self.assertRaises(LifeOver):
@@ -609,7 +610,7 @@ class Handled(unittest.TestCase):
         for fault, said, log in rows:
             link = mock.Mock()
             with contextlib.redirect_stderr(io.StringIO()) as heard:
-                self.assertEqual(handled(mock.Mock(side_effect=fault), {}, link), 70)
+                self.assertEqual(handled(mock.Mock(side_effect=fault), written(StoreRequest()).encode(), link), 70)
             link.say.assert_called_once_with(said)
             self.assertEqual(heard.getvalue()[:9], log)
 
@@ -642,7 +643,7 @@ class Services(support.RoomTest):
             link.connect(service.path)
             link.settimeout(30)
             socket.send_fds(link, [b"f"], [0, 1, 2])
-            link.sendall(b'{}\n{"signal": 15}\n')
+            link.sendall(written(StoreRequest()).encode() + b'\n{"signal": 15}\n')
             with link.makefile("rb") as reader:
                 heard, said, ended = (json.loads(reader.readline()) for _ in range(3))
             self.assertIn("doesn't answer", said["say"])
@@ -706,7 +707,7 @@ class Unanswered(support.RoomTest):
     def test_left(self) -> None:
         """Whoever waits for the answer to a commit is told, and may leave. The commit is sent again all the same."""
         program, transport = os.environ.get("FARMCTL", support.PRACTICE), Cut()
-        setup = Setup(program, self.room, make_key(self.path("key")), FolderStore(self.path("contents")), transport, lambda text: None)
+        setup = support.setup_of(self.room, program, transport)
         coordinator, node = CoordinatorAgent(setup), NodeAgent(1, 1, setup)
         agents: list[CoordinatorAgent | NodeAgent] = [coordinator, node]
         for agent in agents:
@@ -716,7 +717,7 @@ class Unanswered(support.RoomTest):
         for folder, said in (("locked:c", "lost [0-9]+: what the command left isn't known to count"), ("shared:c", "lost shared:c")):
             path, caller, ends = self.path(folder), support.Heard(), list[object]()
             script = f"echo x > {path}/f; touch {path}.ran; until [ -e {path}.go ]; do sleep 0.05; done"
-            run = Run(node, Job(["sh", "-c", script], self.room, {"PATH": os.environ["PATH"]}, [Want(folder, path)]), caller)
+            run = Run(node, Job(command=["sh", "-c", script], cwd=self.room, env={"PATH": os.environ["PATH"]}, wants=[Want(folder, path)]), caller)
 
             def does() -> None:
                 try:
@@ -746,7 +747,7 @@ class Unanswered(support.RoomTest):
     def unheard(self, node: NodeAgent) -> None:
         """Who waits no longer is told where the coordinator wasn't heard."""
         with self.assertRaisesRegex(WaitOver, "within 0 seconds: the coordinator hasn't answered yet"):
-            Run(node, Job(["true"], self.room, {}, [], wait=0), support.Heard()).run()
+            Run(node, Job(command=["true"], cwd=self.room, env={}, wants=[], wait=0), support.Heard()).run()
 
 
 @unittest.skipUnless(support.has("casync"), support.needs("casync"))
@@ -754,7 +755,7 @@ class BadTransport(support.RoomTest):
     def test_counts(self) -> None:
         """Two nodes add three lines: none is lost, over a transport that loses and repeats."""
         program = os.environ.get("FARMCTL", support.PRACTICE)
-        setup = Setup(program, self.room, make_key(self.path("key")), FolderStore(self.path("contents")), Lossy(), lambda text: None)
+        setup = support.setup_of(self.room, program, Lossy())
         coordinator = CoordinatorAgent(setup)
         nodes = [NodeAgent(1, 2, setup), NodeAgent(2, 2, setup)]
         agents: list[CoordinatorAgent | NodeAgent] = [coordinator, *nodes]
@@ -768,7 +769,10 @@ class BadTransport(support.RoomTest):
             path = self.path(f"w{agent.node}")
             for _ in range(agent.node):
                 command = ["sh", "-c", f"echo {agent.node} >> {path}/f; wc -l < {path}/f"]
-                job = Job(command, self.room, {"PATH": os.environ["PATH"]}, [Want("locked:c", path)], wait=support.PATIENCE, fenced_status=75, lost_status=75)
+                job = Job(
+                    command=command, cwd=self.room, env={"PATH": os.environ["PATH"]}, wants=[Want("locked:c", path)], wait=support.PATIENCE,
+                    fenced_status=75, lost_status=75,
+                )
                 caller = support.Heard()
                 with open(self.path("out"), "a") as out:
                     caller.streams = [0, out.fileno(), out.fileno()]

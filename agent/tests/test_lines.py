@@ -8,12 +8,13 @@ import tempfile
 import threading
 import time
 import unittest
-from typing import Any
 from unittest import mock
 
 from agent import tools
 from agent.faults import FarmFault, LifeOver, Missing
 from agent.filters.lines import Answer, Filter, FilterGone, Talk, line_of
+from agent.service.carried import written
+from agent.service.requests import StoreRequest
 from agent.service.sockets import Connection, Service
 
 from agent.tests import support
@@ -156,7 +157,7 @@ class Sockets(support.RoomTest):
         """A caller that was killed before it had read what it was told is gone all the same."""
         gone = threading.Event()
 
-        def waits(_asked: dict[str, Any], link: Connection) -> int:
+        def waits(_asked: object, link: Connection) -> int:
             while not link.gone:
                 time.sleep(0.01)
             gone.set()
@@ -169,7 +170,7 @@ class Sockets(support.RoomTest):
         with socket.socket(socket.AF_UNIX) as link:
             link.connect(self.path("s"))
             socket.send_fds(link, [b"f"], [0, 1, 2])
-            link.sendall(b"{}\n")
+            link.sendall(written(StoreRequest()).encode() + b"\n")
             link.recv(1, socket.MSG_PEEK)
         self.assertTrue(gone.wait(support.PATIENCE))
         support.until(lambda: service.used > begun)

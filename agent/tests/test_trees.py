@@ -1,7 +1,6 @@
 """Folders as contents, and back; what a store forgets."""
 from __future__ import annotations
 
-import contextlib
 import errno
 import json
 import mmap

@@ -1,7 +1,8 @@
-"""The agent's types."""
+"""What can be said of the agent's code without running it."""
 from __future__ import annotations
 
 import glob
+import shutil
 import subprocess
 import sys
 import unittest
@@ -11,21 +12,35 @@ from agent.tests import support
 PYTHONS = (sys.executable, "/usr/bin/python3")  # the second has what the distribution installs
 
 
-def python_with_mypy() -> str | None:
-    calls = (subprocess.run([python, "-c", "import mypy"], capture_output=True) for python in PYTHONS)
+SCRIPTS = (glob.glob("printed/*.py", root_dir=support.TOP), ["refused-memory/run.py"], [".ci/dearest"])
+
+
+def python_with(module: str) -> str | None:
+    """A Python that has a module."""
+    calls = (subprocess.run([python, "-c", f"import {module}"], capture_output=True) for python in PYTHONS)
     return next((python for python, call in zip(PYTHONS, calls) if call.returncode == 0), None)
 
 
 class Types(unittest.TestCase):
     def test_strict(self) -> None:
-        python = python_with_mypy()
+        python = python_with("mypy")
         if python is None:
             self.skipTest(support.needs("mypy"))
         words = [python, "-m", "mypy", "--strict", "--python-version", "3.11", "--cache-dir", "/dev/null"]
         # apart, since two scripts are called `run`
-        for files in (["agent", "farm"], glob.glob("printed/*.py", root_dir=support.TOP), ["refused-memory/run.py"], [".ci/dearest"]):
+        for files in (["agent", "farm"], *SCRIPTS):
             done = subprocess.run([*words, *files], cwd=support.TOP, capture_output=True, text=True)
             self.assertEqual(done.returncode, 0, done.stdout + done.stderr)
+
+    def test_lint(self) -> None:
+        """By ruff, whose rules pyproject.toml has; where it isn't there pyflakes looks for names that are unknown or unused."""
+        ruff, python = shutil.which("ruff"), python_with("pyflakes")
+        if ruff is None and python is None:
+            self.skipTest(support.needs("python3-pyflakes"))
+        words = [ruff, "check"] if ruff else [str(python), "-m", "pyflakes"]
+        files = ["agent", "farm", *(file for files in SCRIPTS for file in files)]
+        done = subprocess.run([*words, *files], cwd=support.TOP, capture_output=True, text=True)
+        self.assertEqual(done.returncode, 0, done.stdout + done.stderr)
 
 
 if __name__ == "__main__":

@@ -19,7 +19,7 @@ from typing import Any, Callable
 sys.dont_write_bytecode = True
 sys.path.insert(0, str(Path(__file__).resolve().parents[2]))
 
-from agent import cli  # noqa: E402
+from agent.commands.main import main as farm  # noqa: E402
 from agent.filters.lines import Answer  # noqa: E402
 from agent.filters.node import NodeAgent  # noqa: E402
 from agent.folders import places  # noqa: E402
@@ -152,7 +152,7 @@ def main() -> int:
     if said.get("wrong") == "stale":
         folders: Any = places.Places
         folders._standing = lambda self, path: (self._read(path) + [None] * 5)[3]
-    return cli.main()
+    return farm()
 
 
 if __name__ == "__main__":

@@ -17,7 +17,7 @@ from agent.runs import launch
 from agent.faults import FarmFault
 from agent.transport.hints import Hints, make_key
 from agent.transport.redis_wire import Redis, RedisFault
-from agent.service.serving import farm_name
+from agent.store.opened import farm_name
 from agent.tests.support import free_port
 from agent.tools import TOP, need
 

@@ -1,0 +1,1 @@
+"""The words of `farm`, and what each command does."""

@@ -1,0 +1,146 @@
+"""Commands that ask the coordinator, and those that clear away.
+
+Owes the filters nothing.
+"""
+from __future__ import annotations
+
+import argparse
+import json
+import os
+import time
+from typing import TYPE_CHECKING
+
+from agent.commands.run import node_sockets
+from agent.faults import FarmFault, UsageFault, show
+from agent.service import client
+from agent.service.carried import plain
+from agent.service.operators import LogRequest, PruneRequest, RetireRequest, Status, StatusRequest, Versions, WithdrawRequest
+from agent.service.requests import Digests, ForgetRequest, Forgotten, NeededRequest, StorePlace, StoreRequest
+from agent.words import version_of
+
+if TYPE_CHECKING:
+    from agent.store.folder import Store
+
+LAST = 3  # versions of a folder that `status --json` and the page tell
+
+
+def coordinator_of(args: argparse.Namespace) -> str:
+    """The coordinator's socket."""
+    return f"{args.home}/coordinator.sock"
+
+
+def operate(args: argparse.Namespace, request: WithdrawRequest | RetireRequest | PruneRequest) -> int:
+    """Has the coordinator do something. What came of it is said."""
+    return client.ask(coordinator_of(args), request).status
+
+
+def _ago(at: float | None) -> str:
+    return f"for {time.time() - at:.0f} s" if at else "since before its agent began"
+
+
+def do_status(args: argparse.Namespace) -> int:
+    told = client.told_at(coordinator_of(args), StatusRequest(last=LAST if args.json else 0), Status)
+    if args.json:
+        show(json.dumps(plain(told), indent=2))
+        return 0
+    for lease in told.leases:
+        slots = ", ".join(lease.slots)
+        what = f"has {slots} open" if lease.kind == "tenure" else f"has {slots}" if slots else "runs a command without folders of its own"
+        show(f"node {lease.node} {what} {_ago(lease.since)}, ticket {lease.ticket}")
+    for waiting in told.waiting:
+        left = ", and nobody there wants it any more" if waiting.left else ""
+        show(f"node {waiting.node} waits for {', '.join(waiting.folders)}{left}")
+    for folder in told.folders:
+        show(f"{folder.slot} is at version {folder.version}")
+    for node in told.gone:
+        show(f"node {node} was retired")
+    if not told.leases and not told.waiting:
+        show("nobody has or wants a folder")
+    return 0
+
+
+def do_web(args: argparse.Namespace) -> int:
+    from agent.web import web
+
+    def read() -> object:
+        return plain(client.told_at(coordinator_of(args), StatusRequest(last=LAST), Status, shows=False))
+
+    return web.serve(args.address, args.port, read)
+
+
+def do_log(args: argparse.Namespace) -> int:
+    told = client.told_at(coordinator_of(args), LogRequest(folder=args.folder), Versions)
+    for slot, versions in told.slots.items():
+        for version in versions:
+            show(f"{slot} version {version.version} ticket {version.ticket} {version.digest}")
+    if not told.slots:
+        raise FarmFault(f"{args.folder} has no version")
+    return 0
+
+
+def do_get(args: argparse.Namespace) -> int:
+    from agent.folders import trees
+
+    folder, number = version_of(args.folder)
+    told = client.told_at(coordinator_of(args), LogRequest(folder=folder), Versions).slots
+    if len(told) != 1:
+        raise FarmFault(f"{folder} has no version" if not told else f"name one of {', '.join(told)}")
+    versions = next(iter(told.values()))
+    found = [each for each in versions if number in (None, each.version)]
+    if not found:
+        raise FarmFault(f"{folder} has the versions 1 to {len(versions)}")
+    store = store_at(args.home, client.told_at(coordinator_of(args), StoreRequest(), StorePlace))
+    index = store.index(found[-1].digest)
+    if index is None:
+        raise FarmFault(f"the content of version {found[-1].version} isn't in the store any more")
+    trees.extract_whole(store, index, os.path.abspath(args.to))
+    return 0
+
+
+def store_at(home: str, place: StorePlace) -> Store:
+    """The store of a farm of this machine."""
+    from agent.store.opened import open_store
+    from agent.transport.hints import Hints
+
+    return open_store(home, place.broker, place.contents, Hints(f"{home}/key"))
+
+
+def do_withdraw(args: argparse.Namespace) -> int:
+    return operate(args, WithdrawRequest(ticket=args.ticket))
+
+
+def do_retire(args: argparse.Namespace) -> int:
+    return operate(args, RetireRequest(node=args.node, is_gone=args.gone))
+
+
+def do_prune(args: argparse.Namespace) -> int:
+    return operate(args, PruneRequest(folder=args.folder))
+
+
+def do_gc(args: argparse.Namespace) -> int:
+    """On the coordinator's machine all that the farm keeps; on another one what its own nodes have."""
+    from agent.store.folder import FolderStore
+    from agent.store.redis import RedisStore
+
+    if args.keep < 1:
+        raise UsageFault("the last version of a folder is always kept: --keep is at least 1")
+    nodes = list(node_sockets(args.home))
+    is_coordinators = client.is_there(coordinator_of(args)) or not nodes
+    path = coordinator_of(args) if is_coordinators else nodes[0]
+    kept, begun = client.told_at(path, StoreRequest(), StorePlace), time.time()
+    needed = client.told_at(path, NeededRequest(keep=args.keep), Digests).digests
+
+    def grace() -> float:
+        return float(args.grace + time.time() - begun)
+
+    contents = sum(client.told_at(node, ForgetRequest(needed=needed, grace=grace()), Forgotten).contents for node in nodes)
+    store = store_at(args.home, kept)
+    if is_coordinators and isinstance(store, RedisStore):
+        indexes, chunks = store.forget(set(needed), grace())
+        show(f"Redis forgot {indexes} indexes and {chunks} chunks")
+    folder = store.folder if isinstance(store, RedisStore) else store
+    assert isinstance(folder, FolderStore)
+    is_ours = is_coordinators or not kept.contents  # a folder that all see is the coordinator's business
+    indexes, chunks = folder.forget(set(needed), grace()) if is_ours else (0, 0)
+    show(f"forgot {contents} contents of nodes, {indexes} indexes and {chunks} chunks")
+    return 0

@@ -1,0 +1,149 @@
+"""The words of `farm`. What only some commands need is imported where they begin: a command that only asks an agent starts the faster.
+
+Owes the filters nothing: a word's meaning is judged where it is used.
+"""
+from __future__ import annotations
+
+import argparse
+import math
+import os
+from typing import Any, Callable
+
+from agent.commands.run import do_build, do_run
+from agent.commands.serve import do_coordinator, do_node, do_up
+
+ENDS = """statuses: the command's or builder's own; 64 wrong words; 65 a Dockerfile that can't be built under leases; 69 a program is missing;
+70 a fault; 75 the lease wasn't granted in time, or what was left doesn't count; 76 a build whose lease had ended"""
+
+
+def default_home() -> str:
+    state = os.environ.get("XDG_STATE_HOME") or os.path.expanduser("~/.local/state")
+    return os.environ.get("FARM_HOME") or f"{state}/farm"
+
+
+def parser() -> argparse.ArgumentParser:
+    top = argparse.ArgumentParser(prog="farm", description="Runs commands and builds under leases of cache folders.", epilog=ENDS)
+    verbs = top.add_subparsers(dest="verb", required=True, metavar="COMMAND")
+    for add in (_serving_words, _run_words, _build_words, _asking_words):
+        add(verbs)
+    return top
+
+
+def seconds(text: str) -> float:
+    """How long somebody may wait, or how old something is."""
+    if not 0 <= float(text) < math.inf:
+        raise ValueError
+    return float(text)
+
+
+def node(text: str) -> int:
+    """A node's number, or how many a farm has."""
+    if not 1 <= int(text) <= 1024:
+        raise argparse.ArgumentTypeError(f"a farm has the nodes 1 to 1,024, and not {text}")
+    return int(text)
+
+
+def ticket(text: str) -> int:
+    if not 1 <= int(text) < 2**64:
+        raise ValueError
+    return int(text)
+
+
+def path(text: str) -> str:
+    """A path that is named: an empty one, as of a variable that isn't set, would be the folder that this is called in."""
+    if not text:
+        raise ValueError
+    return text
+
+
+def _asks(name: str) -> Callable[[argparse.Namespace], int]:
+    """A command of `ask`, which is read where it is called."""
+    def does(args: argparse.Namespace) -> int:
+        from agent.commands import ask
+
+        return int(getattr(ask, name)(args))
+
+    return does
+
+
+def _verb(verbs: Any, name: str, does: Callable[[argparse.Namespace], int], text: str, example: str) -> argparse.ArgumentParser:
+    made: argparse.ArgumentParser = verbs.add_parser(name, help=text, description=text, epilog=f"example: {example}")
+    made.set_defaults(does=does)
+    made.add_argument("--home", type=path, default=default_home(), help="the farm's folder on this machine (%(default)s, or FARM_HOME)")
+    return made
+
+
+def _serving_words(verbs: Any) -> None:
+    up = _verb(verbs, "up", do_up, "coordinator and nodes on this machine", "farm up --nodes 3")
+    up.add_argument("--while-used", action="store_true", help="ends where nobody uses it for a while")
+    coordinator = _verb(
+        verbs, "coordinator", do_coordinator, "the coordinator alone", "farm coordinator --broker redis://10.0.0.1"
+    )
+    one = _verb(verbs, "node", do_node, "one node alone", "farm node 2 --broker redis://10.0.0.1")
+    one.add_argument("number", type=node, metavar="N")
+    for made in (up, coordinator, one):
+        made.add_argument("--nodes", type=node, default=3, help="how many nodes the farm has (%(default)s)")
+        made.add_argument("--contents", type=path, metavar="FOLDER", help="where contents are kept: a folder that all machines see")
+        made.add_argument("--verbose", action="store_true", help="says what the filters answer")
+    for made in (up, coordinator):
+        made.add_argument(
+            "--lease-timeout", type=seconds, metavar="SECONDS", help="withdraws the leases of a node that wasn't heard for so long"
+        )
+    for made in (coordinator, one):
+        broker = os.environ.get("FARM_BROKER")
+        made.add_argument("--broker", default=broker, required=not broker, metavar="redis://..", help="Redis (or FARM_BROKER, which others don't see)")
+
+
+def _run_words(verbs: Any) -> None:
+    run = _verb(
+        verbs, "run", do_run, "runs a command with its folders leased",
+        "farm run --folder locked:ccache=/tmp/ccache -- make CCACHE_DIR=/tmp/ccache CC='ccache gcc'",
+    )
+    run.usage = "farm run [OPTION].. [--folder [ro=]FOLDER=PATH].. [--] COMMAND.."
+    run.add_argument("--node", type=node, metavar="N", help="the node that runs it (the first one here that isn't retired)")
+    run.add_argument("--folder", action="append", default=[], metavar="[ro=]FOLDER=PATH", help="locked:ID, private:ID or shared:ID")
+    run.add_argument("--wait", type=seconds, metavar="SECONDS", help="waits no longer for the lease, and for 0 only takes what is free: else the status is 75")
+    run.add_argument("--must-commit", action="store_true", help="status 75 where what the command left doesn't count")
+    run.add_argument("--on-lost", choices=["stop", "go-on"], default="go-on", help="what a command does whose lease has ended")
+    run.add_argument("command", nargs=argparse.REMAINDER, metavar="COMMAND")
+
+
+def _build_words(verbs: Any) -> None:
+    build = _verb(
+        verbs, "build", do_build, "builds a Dockerfile with its cache mounts leased", "farm build --node 1 -t app:latest ."
+    )
+    build.add_argument("--node", type=node, metavar="N")
+    build.add_argument("-f", "--file", type=path, metavar="Dockerfile")
+    build.add_argument("-t", "--tag")
+    build.add_argument("--build-arg", action="append", default=[], metavar="K=V")
+    build.add_argument("--target", metavar="STAGE")
+    build.add_argument("--format", choices=["oci", "docker"])
+    build.add_argument("--wait", type=seconds, metavar="SECONDS")
+    build.add_argument("--on-lost", choices=["stop", "go-on"], default="go-on")
+    build.add_argument("--shared-as", choices=["shared", "locked", "private"], default="shared", help="treats shared mounts so")
+    build.add_argument("--keep-failed", action="store_true", help="commits also what a failed build left")
+    build.add_argument("--tag-fenced", action="store_true", help="tags the image also where the lease had ended")
+    build.add_argument("context", type=path)
+
+
+def _asking_words(verbs: Any) -> None:
+    status = _verb(verbs, "status", _asks("do_status"), "who has what since when, and who waits", "farm status --json")
+    status.add_argument("--json", action="store_true")
+    web = _verb(verbs, "web", _asks("do_web"), "a page with the farm's status, to read", "farm web --port 8080")
+    web.add_argument("--port", type=int, required=True)
+    web.add_argument("--address", default="127.0.0.1", help="the address that it listens at (%(default)s): who reaches it may read all")
+    log = _verb(verbs, "log", _asks("do_log"), "the versions of a folder", "farm log locked:ccache")
+    log.add_argument("folder")
+    get = _verb(verbs, "get", _asks("do_get"), "what a version holds, without a lease", "farm get locked:ccache@3 /tmp/third")
+    get.add_argument("folder", metavar="FOLDER[@NUMBER]")
+    get.add_argument("to", type=path, metavar="DIR")
+    withdraw = _verb(verbs, "withdraw", _asks("do_withdraw"), "ends a lease: its holder's commit won't count", "farm withdraw 17")
+    withdraw.add_argument("ticket", type=ticket, metavar="T")
+    retire = _verb(verbs, "retire", _asks("do_retire"), "ends a node for good", "farm retire 3")
+    retire.add_argument("node", type=node, metavar="N")
+    retire.add_argument("--gone", action="store_true", help="the node is gone for good: you vouch that all it ran is over")
+    prune = _verb(verbs, "prune", _asks("do_prune"), "makes a folder's next version the empty one", "farm prune locked:ccache")
+    prune.add_argument("folder")
+    gc = _verb(verbs, "gc", _asks("do_gc"), "forgets what nothing needs, on this machine", "farm gc --keep 3")
+    gc.add_argument("--keep", type=int, default=1, metavar="K", help="keeps the last K versions of each folder (%(default)s)")
+    gc.add_argument("--grace", type=seconds, default=3600, metavar="SECONDS", help="keeps what is younger (%(default)s)")

@@ -1,0 +1,92 @@
+"""What commands ask a node, and what it tells them.
+
+Each is made by keywords. They are named tuples, since a command that asks would start a third slower over dataclasses.
+
+Owes the filters nothing: who may enter the farm's home may ask all of it.
+"""
+from __future__ import annotations
+
+from typing import NamedTuple
+
+# What of a caller's environment a build gets.
+BUILD_ENV = ("http_proxy", "https_proxy", "no_proxy", "HTTP_PROXY", "HTTPS_PROXY", "NO_PROXY")
+
+
+# Asked of a node.
+
+
+class RunRequest(NamedTuple):
+    """Runs a command under leases, with the streams that come beside the request."""
+
+    command: tuple[str, ...]
+    folders: tuple[str, ...]  # as `--folder` spells them
+    cwd: str
+    env: dict[str, str]
+    umask: int
+    wait: float | None = None  # seconds for the lease
+    must_commit: bool = False
+    stops_when_lost: bool = False
+
+
+class BuildRequest(NamedTuple):
+    """Builds a Dockerfile under leases."""
+
+    context: str
+    cwd: str
+    build_args: dict[str, str]
+    env: dict[str, str]
+    file: str | None = None
+    tag: str | None = None
+    target: str | None = None
+    format: str | None = None
+    wait: float | None = None
+    stops_when_lost: bool = False
+    shared_as: str = "shared"
+    keep_failed: bool = False
+    tag_fenced: bool = False
+
+
+class ForgetRequest(NamedTuple):
+    """Forgets what a node keeps of its own, but for the digests that are needed and what is younger than the grace (seconds)."""
+
+    needed: tuple[str, ...]
+    grace: float
+
+
+# Asked of a node or the coordinator.
+
+
+class NeededRequest(NamedTuple):
+    """Asks which contents are needed, with the last `keep` versions of each folder."""
+
+    keep: int
+
+
+class StoreRequest(NamedTuple):
+    """Asks where contents lie."""
+
+
+# Told.
+
+
+class NodeWasRetired(NamedTuple):
+    why: str
+
+
+class Forgotten(NamedTuple):
+    contents: int
+
+
+class Digests(NamedTuple):
+    digests: tuple[str, ...]
+
+
+class StorePlace(NamedTuple):
+    """Where contents lie: a broker's Redis, or the folder named; neither: the home's own folder."""
+
+    broker: str | None
+    contents: str | None
+
+
+NodeRequest = RunRequest | BuildRequest | ForgetRequest | NeededRequest | StoreRequest
+NodeTold = NodeWasRetired | Forgotten | Digests | StorePlace
