@@ -1,6 +1,6 @@
 """The programs that the agent calls: where they are, and what installs those that aren't there.
 
-Owes the filters that the program it starts is the repository's own, unless FARMCTL names another.
+Owes the filters that the program it starts is the repository's own, built from the sources that stand here, unless FARMCTL names another.
 """
 from __future__ import annotations
 
@@ -10,11 +10,11 @@ import signal
 import subprocess
 from typing import Callable
 
-from agent.faults import Missing
+from agent.faults import FarmFault, Missing
+from release import choice
 
 PACKAGES = {"ip": "iproute2"}  # where a package has another name
 TOP = os.path.dirname(os.path.dirname(os.path.abspath(__file__)))
-PROGRAMS = ("farmd", "farmctl")  # each has both filters
 LOOK = 0.2  # seconds after which it is seen that nobody waits any more
 
 
@@ -26,19 +26,21 @@ def need(tool: str) -> str:
     return found
 
 
+class Spoilt(FarmFault):
+    """The released program isn't the file that was released."""
+
+
+def farm_choice() -> choice.Choice:
+    """The program whose processes decide, and what it is."""
+    try:
+        return choice.chosen_filter()
+    except choice.NoProgram as fault:
+        raise (Spoilt if fault.status == choice.SPOILT else Missing)(str(fault)) from None
+
+
 def farm_program() -> str:
-    """The program whose processes decide: of those that are built the one that was built last."""
-    given = os.environ.get("FARMCTL")
-    if given:
-        found = shutil.which(given)
-        if not found:
-            raise Missing(f"the farm's program isn't there, or can't be run: FARMCTL names {given}")
-        return os.path.abspath(found)
-    places = [os.path.join(TOP, "crates", name, "out", name) for name in PROGRAMS]
-    built = [place for place in places if os.access(place, os.X_OK)]
-    if not built:
-        raise Missing("the farm's program isn't built yet: ./farmd --help proves and builds it, once")
-    return max(built, key=os.path.getmtime)
+    """The path of the program whose processes decide."""
+    return farm_choice().path
 
 
 def why(done: subprocess.CompletedProcess[str]) -> str:

@@ -49,7 +49,7 @@ def built(name: str) -> Choice | None:
                 kept, digest = file.read().split()
         except (OSError, ValueError):
             continue
-        if os.access(path, os.X_OK) and kept == stamp(name) and digest == digest_of(path):
+        if os.access(path, os.X_OK) and kept == stamp(name, TOP) and digest == digest_of(path):
             return Choice(path, what)
     return None
 
@@ -71,9 +71,9 @@ def released(name: str) -> Choice | None:
 
 def changed(name: str, found: manifest.Manifest) -> list[str]:
     """The crates of a program whose sources aren't those of the release, or HANDLES."""
-    if not has_sources():
+    if not has_sources(TOP):
         return []
-    here = standing((name,))
+    here = standing((name,), TOP)
     handles = [] if os.path.exists(f"{TOP}/HANDLES") and digest_of(f"{TOP}/HANDLES") == found.handles else ["HANDLES"]
     return handles + differing(here, {crate: each for crate, each in found.crates.items() if crate in here})
 

@@ -53,7 +53,7 @@ def parsed(text: str) -> Manifest:
     return made
 
 
-def read(path: str = PATH) -> Manifest:
+def read() -> Manifest:
     """The manifest of this checkout or package."""
-    with open(path) as file:
+    with open(PATH) as file:
         return parsed(file.read())

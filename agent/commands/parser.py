@@ -9,6 +9,7 @@ import math
 import os
 from typing import Any, Callable
 
+from agent.faults import FarmFault, show
 from agent.commands.run import do_build, do_run
 from agent.commands.serve import do_coordinator, do_node, do_up
 
@@ -23,10 +24,27 @@ def default_home() -> str:
 
 def parser() -> argparse.ArgumentParser:
     top = argparse.ArgumentParser(prog="farm", description="Runs commands and builds under leases of cache folders.", epilog=ENDS)
+    top.add_argument("--version", action=Version, nargs=0, help="says the version, and which program decides")
     verbs = top.add_subparsers(dest="verb", required=True, metavar="COMMAND")
     for add in (_serving_words, _run_words, _build_words, _asking_words):
         add(verbs)
     return top
+
+
+class Version(argparse.Action):
+    """Says the version, and which program decides."""
+
+    def __call__(self, *_: object) -> None:
+        from agent.tools import farm_choice
+        from release.choice import told
+        from release.sources import version
+
+        try:
+            what = told("farmd", farm_choice()).partition(", ")[2]
+        except FarmFault as fault:
+            what = f"and no program to decide: {fault}"
+        show(f"farm {version()}, {what}")
+        raise SystemExit(0)
 
 
 def seconds(text: str) -> float:

@@ -24,11 +24,12 @@ def start_farm(home: str) -> None:
     """Starts a farm of one node in a process of its own, which ends where nobody uses it."""
     import subprocess
 
-    from agent.tools import TOP, farm_program
+    from agent.tools import TOP, farm_choice
 
-    env = os.environ | {"FARMCTL": farm_program()}  # a missing program is told here, and not in the farm's log; its path may be one from here
+    program = farm_choice()  # a missing program is told here, and not in the farm's log
+    env = os.environ | {"FARMCTL": program.path}  # its path may be one from here
     os.makedirs(home, mode=0o700, exist_ok=True)
-    tell(f"no farm runs in {home}: one of one node is started")
+    tell(f"no farm runs in {home}: one of one node is started, by {program.what}")
     words = [sys.executable, "-IS", os.path.join(TOP, "farm"), "up", "--home", home, "--nodes", "1", "--while-used", "--verbose"]
     if os.path.exists(f"{home}/farm.log") and os.path.getsize(f"{home}/farm.log") > LOG_MOST:
         os.replace(f"{home}/farm.log", f"{home}/farm.log.old")

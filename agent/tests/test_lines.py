@@ -1,10 +1,8 @@
 """The talk with a filter, and with who asks an agent."""
 from __future__ import annotations
 
-import os
 import socket
 import sys
-import tempfile
 import threading
 import time
 import unittest
@@ -136,20 +134,6 @@ class Lines(unittest.TestCase):
                 tools.need("casync")
             with self.assertRaisesRegex(Missing, "/nowhere/farmctl"):
                 tools.farm_program()
-
-    def test_programs(self) -> None:
-        """The one that was built last is taken, and where there is none it is said how to build one."""
-        with tempfile.TemporaryDirectory() as top, mock.patch.object(tools, "TOP", top), mock.patch.dict("os.environ"):
-            os.environ.pop("FARMCTL", None)
-            with self.assertRaisesRegex(Missing, "./farmd --help"):
-                tools.farm_program()
-            for built, name in enumerate(tools.PROGRAMS):
-                place = f"{top}/crates/{name}/out/{name}"
-                os.makedirs(os.path.dirname(place))
-                open(place, "w").close()
-                os.chmod(place, 0o755)
-                os.utime(place, (built, built))
-                self.assertEqual(place, tools.farm_program())
 
 
 class Sockets(support.RoomTest):

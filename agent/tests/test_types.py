@@ -12,7 +12,7 @@ from agent.tests import support
 PYTHONS = (sys.executable, "/usr/bin/python3")  # the second has what the distribution installs
 
 
-SCRIPTS = (glob.glob("printed/*.py", root_dir=support.TOP), ["refused-memory/run.py"], [".ci/dearest"])
+SCRIPTS = (glob.glob("printed/*.py", root_dir=support.TOP), ["refused-memory/run.py"], [".ci/dearest"], ["farmctl"], ["release/make"])
 
 
 def python_with(module: str) -> str | None:
@@ -28,7 +28,7 @@ class Types(unittest.TestCase):
             self.skipTest(support.needs("mypy"))
         words = [python, "-m", "mypy", "--strict", "--python-version", "3.11", "--cache-dir", "/dev/null"]
         # apart, since two scripts are called `run`
-        for files in (["agent", "farm"], *SCRIPTS):
+        for files in (["agent", "release", "farm"], *SCRIPTS):
             done = subprocess.run([*words, *files], cwd=support.TOP, capture_output=True, text=True)
             self.assertEqual(done.returncode, 0, done.stdout + done.stderr)
 
@@ -38,7 +38,7 @@ class Types(unittest.TestCase):
         if ruff is None and python is None:
             self.skipTest(support.needs("python3-pyflakes"))
         words = [ruff, "check"] if ruff else [str(python), "-m", "pyflakes"]
-        files = ["agent", "farm", *(file for files in SCRIPTS for file in files)]
+        files = ["agent", "release", "farm", *(file for files in SCRIPTS for file in files)]
         done = subprocess.run([*words, *files], cwd=support.TOP, capture_output=True, text=True)
         self.assertEqual(done.returncode, 0, done.stdout + done.stderr)
 
