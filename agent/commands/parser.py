@@ -10,7 +10,7 @@ import os
 from typing import Any, Callable
 
 from agent.faults import FarmFault, show
-from agent.commands.run import do_build, do_run
+from agent.commands.run import SERVED, do_build, do_run
 from agent.commands.serve import do_coordinator, do_node, do_up
 
 ENDS = """statuses: the command's or builder's own; 64 wrong words; 65 a Dockerfile that can't be built under leases; 69 a program is missing;
@@ -18,14 +18,22 @@ ENDS = """statuses: the command's or builder's own; 64 wrong words; 65 a Dockerf
 
 
 def default_home() -> str:
+    """The home that FARM_HOME names; the one that a unit of this machine serves, if this user may use it; else the user's own."""
     state = os.environ.get("XDG_STATE_HOME") or os.path.expanduser("~/.local/state")
-    return os.environ.get("FARM_HOME") or f"{state}/farm"
+    return os.environ.get("FARM_HOME") or served_home() or f"{state}/farm"
+
+
+def served_home() -> str | None:
+    """A home of this machine's units with a node that this user may ask."""
+    homes = [(f"{SERVED}/here", 1), *((f"{SERVED}/node{number}", number) for number in range(1, 17))] if os.path.isdir(SERVED) else []
+    return next((home for home, number in homes if os.access(f"{home}/node{number}.sock", os.W_OK)), None)
 
 
 def parser() -> argparse.ArgumentParser:
     top = argparse.ArgumentParser(prog="farm", description="Runs commands and builds under leases of cache folders.", epilog=ENDS)
     top.add_argument("--version", action=Version, nargs=0, help="says the version, and which program decides")
     verbs = top.add_subparsers(dest="verb", required=True, metavar="COMMAND")
+    setattr(verbs, "home", default_home())
     for add in (_serving_words, _run_words, _build_words, _asking_words):
         add(verbs)
     return top
@@ -85,9 +93,10 @@ def _asks(name: str) -> Callable[[argparse.Namespace], int]:
 
 
 def _verb(verbs: Any, name: str, does: Callable[[argparse.Namespace], int], text: str, example: str) -> argparse.ArgumentParser:
+    home = verbs.home
     made: argparse.ArgumentParser = verbs.add_parser(name, help=text, description=text, epilog=f"example: {example}")
     made.set_defaults(does=does)
-    made.add_argument("--home", type=path, default=default_home(), help="the farm's folder on this machine (%(default)s, or FARM_HOME)")
+    made.add_argument("--home", type=path, default=home, help="the farm's folder on this machine (%(default)s, or FARM_HOME)")
     return made
 
 
@@ -102,6 +111,7 @@ def _serving_words(verbs: Any) -> None:
     for made in (up, coordinator, one):
         made.add_argument("--nodes", type=node, default=3, help="how many nodes the farm has (%(default)s)")
         made.add_argument("--contents", type=path, metavar="FOLDER", help="where contents are kept: a folder that all machines see")
+        made.add_argument("--group", metavar="NAME", help="whose members may use the farm too, as good as root where root serves it")
         made.add_argument("--verbose", action="store_true", help="says what the filters answer")
     for made in (up, coordinator):
         made.add_argument(

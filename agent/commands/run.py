@@ -17,6 +17,7 @@ from agent.service import client
 from agent.service.requests import BUILD_ENV, BuildRequest, NodeRequest, NodeWasRetired, RunRequest
 from agent.words import want_of
 
+SERVED = "/var/lib/farm"  # where the units of the package have their homes
 LOG_MOST = 8 << 20  # bytes of the log of farms that commands start: a longer one is put aside, in place of the one before it
 
 
@@ -29,6 +30,8 @@ def start_farm(home: str) -> None:
     program = farm_choice()  # a missing program is told here, and not in the farm's log
     env = os.environ | {"FARMCTL": program.path}  # its path may be one from here
     os.makedirs(home, mode=0o700, exist_ok=True)
+    if os.path.isdir(f"{SERVED}/here") and not os.access(f"{SERVED}/here", os.X_OK):
+        tell("this machine has a farm, which only root and members of its group use: adduser NAME farm makes one")
     tell(f"no farm runs in {home}: one of one node is started, by {program.what}")
     words = [sys.executable, "-IS", os.path.join(TOP, "farm"), "up", "--home", home, "--nodes", "1", "--while-used", "--verbose"]
     if os.path.exists(f"{home}/farm.log") and os.path.getsize(f"{home}/farm.log") > LOG_MOST:

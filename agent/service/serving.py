@@ -7,6 +7,7 @@ from __future__ import annotations
 import contextlib
 import os
 import signal
+import socket
 import sys
 import threading
 import time
@@ -29,7 +30,7 @@ from agent.service.operators import LogRequest, PruneRequest, RetireRequest, Sta
 from agent.service.requests import (
     BuildRequest, Digests, ForgetRequest, Forgotten, NeededRequest, RunRequest, StorePlace, StoreRequest,
 )
-from agent.service.sockets import Connection, Handler, Service
+from agent.service.sockets import Connection, Handler, Service, group_of
 from agent.store.folder import is_old
 from agent.tools import farm_program
 from agent.transport.local import LocalTransport, Transport
@@ -50,6 +51,7 @@ class Wanted:
     contents: str | None = None  # the folder of a store that machines share
     lease_timeout: float | None = None
     verbose: bool = False
+    group: str | None = None  # whose members may ask, beside the home's owner
     while_used: bool = False
 
 
@@ -118,6 +120,9 @@ def setup_of(wanted: Wanted) -> Setup:
     check(wanted)
     program = farm_program()
     os.makedirs(wanted.home, mode=0o700, exist_ok=True)
+    if wanted.group:  # its members reach the sockets; the key is its owner's alone
+        os.chown(wanted.home, -1, group_of(wanted.group))
+        os.chmod(wanted.home, 0o750)
     key = make_key(f"{wanted.home}/key")
     hints = Hints(key)
     check_joined(wanted.home, hints)
@@ -173,7 +178,7 @@ def _begin_node(served: Served, setup: Setup, number: int) -> None:
 
 
 def _serve(served: Served, name: str, handler: Handler) -> None:
-    service = Service(f"{served.wanted.home}/{name}.sock", handler)
+    service = Service(f"{served.wanted.home}/{name}.sock", handler, served.wanted.group)
     served.services.append(service)
     threading.Thread(target=service.serve, daemon=True).start()
 
@@ -193,14 +198,25 @@ def serve(wanted: Wanted) -> int:
         if not wanted.while_used:
             open(mark, "w").close()  # it stands until a farm that people started has ended well: till then no command starts another in its place
         show("up", at_once=True)
+        notify("READY=1")
         _stand(served, over)
     finally:
+        notify("STOPPING=1")
         served.stop()
         if not wanted.while_used:
             with contextlib.suppress(FileNotFoundError):
                 os.unlink(mark)
         _forget_pid(f"{wanted.home}/pid")
     return 0
+
+
+def notify(text: str) -> None:
+    """Tells the service manager that started this process, where one did, by the protocol of sd_notify(3)."""
+    path = os.environ.get("NOTIFY_SOCKET")
+    if path:
+        with contextlib.suppress(OSError), socket.socket(socket.AF_UNIX, socket.SOCK_DGRAM) as link:
+            link.connect("\0" + path[1:] if path.startswith("@") else path)
+            link.send(text.encode())
 
 
 def _stand(served: Served, over: threading.Event) -> None:

@@ -6,6 +6,7 @@ from __future__ import annotations
 
 import array
 import contextlib
+import grp
 import json
 import os
 import signal
@@ -15,7 +16,7 @@ import time
 import traceback
 from typing import IO, Any, Callable
 
-from agent.faults import BAD_DOCKERFILE, FAULT, LOST, FarmFault, NodeRetired, sentence
+from agent.faults import BAD_DOCKERFILE, FAULT, LOST, FarmFault, NodeRetired, UsageFault, sentence
 from agent.service.carried import read, written
 from agent.service.requests import NodeWasRetired
 
@@ -112,10 +113,18 @@ def handled(handler: Handler, raw: bytes, connection: Connection) -> int:
         return FAULT
 
 
+def group_of(name: str) -> int:
+    """The number of a group."""
+    try:
+        return grp.getgrnam(name).gr_gid
+    except KeyError:
+        raise UsageFault(f"there is no group {name} here") from None
+
+
 class Service:
     """A socket of the farm's home."""
 
-    def __init__(self, path: str, handler: Handler) -> None:
+    def __init__(self, path: str, handler: Handler, group: str | None = None) -> None:
         self.path, self.handler = path, handler
         self.busy = 0
         self.used = time.monotonic()  # when the last request was answered
@@ -127,6 +136,9 @@ class Service:
         self.server.bind(path)
         self.own = os.lstat(path)
         os.chmod(path, 0o600)
+        if group:
+            os.chown(path, -1, group_of(group))
+            os.chmod(path, 0o660)
         self.server.listen(64)
 
     def serve(self) -> None:
