@@ -35,9 +35,11 @@ pub mod Schedules
 mod RaidedFarms
 mod Touching
 mod Failing
+mod Keeping
 mod Chronicles
 mod Losing
 mod Processing
+mod Witnessing
 mod RaidedProcesses
 pub mod Answering
 mod Asking

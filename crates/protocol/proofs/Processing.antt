@@ -23,7 +23,7 @@ use Rattle.protocol.specs.Nodes.{Place, guard, fetched, NodeWork, NodeAnswer, as
 use Rattle.protocol.specs.Replay.{Farm, Turn, Event, Deliver, RestartCoordinator, RestartNode, Forge, FailSave, settled, settles, coordinated, delivered, is_node, at, at_node, node_does, moved, answered, restarts, receiver, step, run, opening}
 use Rattle.protocol.specs.Replay as replay
 use Rattle.protocol.specs.Lawful.{IsNumber}
-use Rattle.protocol.specs.Processes.{Coordinator, Processes, Call, Handle, Withdraw, Prune, Retire, Nudge, MayCome, AllMayCome, decided, Batch, begin_batch, taken, batch, CoordinatorDoes, Works, Fails, Is_killed, Starts, NodeCall, Receive, Ask_lease, Ask_tenure, Begin, Finish, Abort, Resend, Bring, Forget, MayReach, node_decided, NodeDoes, Acts, Begins_life, Loses, Is_spent, Happens, Coordinator_does, Node_does, Runs, Rests, Goes_on, first_processes, IsNodeOf, IsOfLeases, IsFarmOf, AreScheduled, ProcessesAreTheFarm, Executes, StaySafe, ProcessesStaySafe, running_after, killed_after, WithdrawnStaysOut, HasAsked, OnlyHonestAreAFarm, EveryFarmIsProcesses}
+use Rattle.protocol.specs.Processes.{Coordinator, Processes, Call, Handle, Withdraw, Prune, Retire, Nudge, MayCome, AllMayCome, decided, Batch, begin_batch, taken, batch, CoordinatorDoes, Works, Fails, Is_killed, Starts, NodeCall, Receive, Ask_lease, Ask_tenure, Begin, Finish, Abort, Resend, Bring, Forget, MayReach, node_decided, NodeDoes, Acts, Begins_life, Loses, Is_spent, Happens, Coordinator_does, Node_does, Runs, Rests, Goes_on, first_processes, IsNodeOf, IsOfLeases, IsFarmOf, AreScheduled, ProcessesAreTheFarm, Executes, StaySafe, ProcessesStaySafe, running_after, killed_after, WithdrawnStaysOut, HasAsked, OnlyHonestAreAFarm, EveryFarmIsProcesses, AllCanBeLost}
 use Rattle.protocol.specs.Safe.{InUse, HoldsContent}
 use Rattle.protocol.specs.Follows.{IsFarm, SafeAfter}
 use Rattle.protocol.specs.Chronicle.{StaysOut, Headline, IsSavedFarm, Covered}
@@ -792,3 +792,27 @@ every_farm_is_processes sha k size events =
     let first : Processes = first_processes sha in
     let starts : Runs sha k size first (as_processes sha k (opening sha size)) = Goes_on first first (as_processes sha k (opening sha size)) (Rests first) (Coordinator_does [] (record { memory = Some ledger.opening; disk = saves ledger.opening }) Starts) in
     (as_processes sha k s, runs_on sha k size first (as_processes sha k (opening sha size)) (as_processes sha k s) starts (schedule_goes sha k events (opening sha size)), record { disk = refl; memory = λ up. rw up refl; nodes = refl; written = refl })
+
+-- ---- what can be lost
+
+pub all_can_be_lost : AllCanBeLost
+all_can_be_lost sha k size p = record {
+  lines = λ q calls lines mem may part. (_, Coordinator_does lines (running_after (batch k calls (begin_batch q p.coordinator.disk))) (Works q calls lines mem may part), refl);
+  node_lines = λ n c w lines number may ok part. (_, Node_does n lines w.node number (Acts size c w lines may ok part), refl);
+  contents = λ n d number. (
+    _,
+    Node_does n [] (record (p.nodes n.0) { store = none; known = (p.nodes n.0).known }) number (Loses none (p.nodes n.0).known (λ e c h. none_some c h) (λ s j e h. h)),
+    ap (λ (x : Node). x.store d) (put_same n.0 (record (p.nodes n.0) { store = none; known = (p.nodes n.0).known }) p.nodes),
+  );
+  versions = λ n s j number. (
+    _,
+    Node_does n [] (record (p.nodes n.0) { store = (p.nodes n.0).store; known = unknown }) number (Loses (p.nodes n.0).store unknown (λ e c h. h) (λ t i e h. none_some e h)),
+    ap (λ (x : Node). x.known s j) (put_same n.0 (record (p.nodes n.0) { store = (p.nodes n.0).store; known = unknown }) p.nodes),
+  );
+}
+  where
+    none : Digest → Option (List ℕ)
+    none d = None
+
+    unknown : Slot → ℕ → Option Digest
+    unknown s j = None

@@ -345,3 +345,37 @@ abbrev pub EveryFarmIsProcesses : Type 0
 EveryFarmIsProcesses = (sha : List ℕ → Digest) (limits : Limits) (size : ℕ) (events : List Event)
     → (processes : Processes) × Runs sha limits size (first_processes sha) processes
     × ProcessesOf (scheduled sha limits size events) processes
+
+-- ---- and what can be lost is
+
+-- the processes later are these
+abbrev pub CanBecome : (List ℕ → Digest) → Limits → ℕ → Processes → Processes → Type 0
+CanBecome sha limits size processes later =
+    (happened : Processes) × Happens sha limits size processes happened × (happened ≡ later)
+
+module _ (sha : List ℕ → Digest) (limits : Limits) (size : ℕ) where
+  -- whatever the processes, each of these losses may be what happens next
+  pub record CanLose (processes : Processes) : Type 0 where
+    -- of the lines of the coordinator's calls any part is all that reaches the network
+    pub lines : (ledger : Ledger) (calls : List Call) (lines : List Message) →
+        let after : Batch = batch limits calls (begin_batch ledger processes.coordinator.disk) in
+        processes.coordinator.memory ≡ Some ledger → AllMayCome size processes.written calls
+        → HasPart after.sends lines
+        → CanBecome sha limits size processes
+        (record processes { coordinator = running_after after; written = processes.written ++ lines })
+    -- so it is of a node's accepted call
+    pub node_lines : (node : NodeId) (call : NodeCall) (work : NodeWork) (lines : List Message) → IsNumber size node
+        → MayReach processes.written node call
+        → node_decided sha limits (record { node = node; nodes = size }) (processes.nodes node.0) call ≡ Ok work
+        → HasPart work.sends lines
+        → CanBecome sha limits size processes
+        (record processes { nodes = put node.0 work.node processes.nodes; written = processes.written ++ lines })
+    -- a node loses any content that it stores, and any version that it knows
+    pub contents : (node : NodeId) (digest : Digest) → IsNumber size node → (happened : Processes)
+        × Happens sha limits size processes happened × ((happened.nodes node.0).store digest ≡ None)
+    pub versions : (node : NodeId) (slot : Slot) (number : ℕ) → IsNumber size node → (happened : Processes)
+        × Happens sha limits size processes happened × ((happened.nodes node.0).known slot number ≡ None)
+
+abbrev pub AllCanBeLost : Type 0
+AllCanBeLost = (sha : List ℕ → Digest) (limits : Limits) (size : ℕ) (processes : Processes)
+    → CanLose sha limits size processes
