@@ -112,7 +112,7 @@ module _ (limits : Limits) where
     pub failed : turn.outcome ≡ Err (refusal.Coord coord_refusal.SaveFault) → IsFailed farm event turn.farm
     pub stays : turn.outcome ≢ Err (refusal.Coord coord_refusal.SaveFault) → turn.farm.armed ≡ farm.armed
 
-  -- how an ask is answered, of the machine before
+  -- how an ask of the greatest life, or of a newer one that ends nothing, is answered, of the machine before
   pub record AsksAreAnswered (machine : Machine) (asked : Parked) (answer : CoordNote) : Type 0 where
     -- one that is leased is granted again
     pub before : machine.lives asked.node.0 ≡ asked.life.0 → (grant : Grant) → Live machine grant
@@ -123,18 +123,18 @@ module _ (limits : Limits) where
         → ((grant : Grant) → Live machine grant → IsOf asked.node asked.life asked.ask grant → ⊥)
         → CouldBeGranted limits machine asked → (grant : Grant) × (answer ≡ coord.Granted grant)
     -- one that must wait for another node waits
-    pub elsewhere : machine.lives asked.node.0 ≡ asked.life.0
+    pub elsewhere : EndsNothing machine asked.node asked.life
         → ((grant : Grant) → Live machine grant → IsOf asked.node asked.life asked.ask grant → ⊥)
         → IsElsewhere machine asked → answer ≡ coord.Parked
     -- one that isn't parked and wants a PRIVATE folder with no instance left is denied
-    pub instances : machine.lives asked.node.0 ≡ asked.life.0 → IsNew machine asked → asked.tenure ≡ false
+    pub instances : EndsNothing machine asked.node asked.life → IsNew machine asked → asked.tenure ≡ false
         → (want : Want) → In want asked.wants → want.folder.mode ≡ Private
         → AllTaken limits.instances machine want.folder → answer ≡ coord.Denied why.InstancesSpent
     -- so is one whose slots are free where no ticket is left
-    pub tickets : machine.lives asked.node.0 ≡ asked.life.0 → IsNew machine asked → (IsElsewhere machine asked → ⊥)
+    pub tickets : EndsNothing machine asked.node asked.life → IsNew machine asked → (IsElsewhere machine asked → ⊥)
         → AreFree limits machine asked → limits.greatest ≤ machine.last → answer ≡ coord.Denied why.TicketsSpent
     -- one that is held up waits
-    pub parked : machine.lives asked.node.0 ≡ asked.life.0
+    pub parked : EndsNothing machine asked.node asked.life
         → ((grant : Grant) → Live machine grant → IsOf asked.node asked.life asked.ask grant → ⊥)
         → IsHeldUp limits machine asked → answer ≡ coord.Parked
 
