@@ -38,6 +38,7 @@ mod Failing
 mod Keeping
 mod Chronicles
 mod Losing
+mod Ended
 mod Processing
 mod Witnessing
 mod RaidedProcesses

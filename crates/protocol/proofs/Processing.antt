@@ -9,7 +9,7 @@ use Rattle.farm_base.specs.declared.message.ToNode.TheVariants as to_node
 use Rattle.farm_base.specs.declared.message.FromCoord.TheVariants as told
 use Rattle.protocol.specs.Lists.{In, IsFrontOf, put, nth}
 use Rattle.protocol.specs.Names.{NodeId, Life, Ask, Ticket, Slot, Digest, Want}
-use Rattle.protocol.specs.Machine.{Grant, LineVersion, Fetch, Blob, Message, Said, Told, hello, acquire, HasPart, Ends_part, Keeps, Leaves}
+use Rattle.protocol.specs.Machine.{Grant, LineVersion, Machine, Fetch, Blob, Message, Said, Told, hello, acquire, HasPart, Ends_part, Keeps, Leaves}
 use Rattle.events.specs.declared.answer.CoordRefusal.{CoordRefusal}
 use Rattle.events.specs.declared.answer.EventRefusal.TheVariants as refusal
 use Rattle.events.specs.declared.answer.Outcome.{Outcome}
@@ -24,16 +24,17 @@ use Rattle.protocol.specs.Replay.{Farm, Turn, Event, Deliver, RestartCoordinator
 use Rattle.protocol.specs.Replay as replay
 use Rattle.protocol.specs.Lawful.{IsNumber}
 use Rattle.protocol.specs.Processes.{Coordinator, Processes, Call, Handle, Withdraw, Prune, Retire, Nudge, MayCome, AllMayCome, decided, Batch, begin_batch, taken, batch, CoordinatorDoes, Works, Fails, Is_killed, Starts, NodeCall, Receive, Ask_lease, Ask_tenure, Begin, Finish, Abort, Resend, Bring, Forget, MayReach, node_decided, NodeDoes, Acts, Begins_life, Loses, Is_spent, Happens, Coordinator_does, Node_does, Runs, Rests, Goes_on, first_processes, IsNodeOf, IsOfLeases, IsFarmOf, AreScheduled, ProcessesAreTheFarm, Executes, StaySafe, ProcessesStaySafe, running_after, killed_after, WithdrawnStaysOut, HasAsked, OnlyHonestAreAFarm, EveryFarmIsProcesses, AllCanBeLost}
-use Rattle.protocol.specs.Safe.{InUse, HoldsContent}
-use Rattle.protocol.specs.Follows.{IsFarm, SafeAfter}
+use Rattle.protocol.specs.Safe.{InUse, HoldsContent, Rising}
+use Rattle.protocol.specs.Follows.{IsFarm, SafeAfter, SavedAgrees, lease_from}
 use Rattle.protocol.specs.Chronicle.{StaysOut, Headline, IsSavedFarm, Covered}
 use Rattle.lists.proofs.Places.{cases_list}
 use Rattle.protocol.proofs.Invariant.{WasAsked}
 use Rattle.protocol.proofs.Worlds.{moves_inv, start_whole}
 use Rattle.protocol.proofs.Losing as losing
-use Rattle.protocol.proofs.Schedules.{from_opening, every_schedule_is_safe}
+use Rattle.protocol.proofs.Schedules.{from_opening, run_next, every_schedule_is_safe}
+use Rattle.protocol.proofs.Ended.{stays_over}
 use Rattle.protocol.proofs.Chronicles.{every_schedule_means, every_farm_is_saved, every_record_covers}
-use Rattle.protocol.proofs.Base.{nth_in, put_same, put_other, put_all, in_one, in_left, in_right, in_append, some_is, none_some}
+use Rattle.protocol.proofs.Base.{true_false, ticket_is, nth_in, put_same, put_other, put_all, in_one, in_left, in_right, in_append, some_is, none_some}
 
 -- ---- members, places and parts
 
@@ -512,6 +513,10 @@ module _ (sha : List ℕ → Digest) (k : Limits) (farm : IsFarm sha k) (size : 
   line_later : (s : Slot) → after.ledger.line s ≡ later.coordinator.disk.line s
   line_later s = ap (λ (d : Saved). d.line s) (sym ((subst (IsSavedFarm sha) whole (every_farm_is_saved sha k farm size (r.early ++ r.late))).up r.after.up) ∙ r.after.disk)
 
+  is_up : (d : Option Machine) → SavedAgrees (sha []) safe.world.pool d before → d ≡ None
+  is_up None saved = refl
+  is_up (Some m) saved = true_false before.down saved.0 r.before.up
+
   stay_safe : StaySafe sha p later
   stay_safe = record {
     contents = λ n n' s number c c' held held'.
@@ -521,6 +526,18 @@ module _ (sha : List ℕ → Digest) (k : Limits) (farm : IsFarm sha k) (size : 
         elim (cases_list c c') [ inl e ↦ inl e | inr ne ↦ inr (ne, a.same ∙ same ∙ sym b.same) ]);
     alone = λ n n' g g' ws ws' s x x' has has' alone. safe.safe.alone n n' g g' ws ws' s (in_use n g ws x) (in_use n' g' ws' x') has has' alone;
     at_home = λ n g wants v x i shared. (let home = safe.safe.at_home n g wants v (in_use n g wants x) i shared in (home.0, home.1, executes n home.0 home.1 home.2, home.3, home.4));
+    over = λ q t mem given none off s v i at.
+        (let up : safe.world.down ≡ None = is_up safe.world.down safe.shows.saved in
+        let is : before.ledger ≡ q = r.before.memory q mem in
+        let next = run_next sha k farm r.late safe.world safe.moves before safe.shows in
+        let machine = safe.world.machine in
+        let last : before.ledger.last ≡ machine.last = safe.shows.now.last in
+        let low : t.0 ≤ before.ledger.last = subst (λ (z : Ledger). t.0 ≤ z.last) (sym is) given in
+        stays_over sha safe.world next.world (moves_inv sha (start sha) safe.world (start_whole sha) safe.moves).0 up next.moves t (omega arith)
+        (λ g live same. none (lease_from g) (subst (λ (z : Ledger). In (lease_from g) z.live) is (safe.shows.now.live_kept g live)) (ticket_is g.ticket t same))
+        (λ x y j same. off x y (subst (λ (z : Ledger). In y (z.line x)) is (subst (In y) (sym (safe.shows.now.lines x)) j)) (ticket_is y.ticket t same))
+        s v (subst (In v) (sym (line_later s) ∙ next.shows.now.lines s) i) (ap (λ (z : Ticket). z.0) at));
+    rising = λ s. (let f = every_schedule_is_safe sha k farm size (r.early ++ r.late) in subst Rising (sym (f.shows.now.lines s) ∙ ap (λ (g : Farm). g.ledger.line s) whole ∙ line_later s) (f.safe.rising s));
     lines = λ s. subst (λ xs. IsFrontOf xs (later.coordinator.disk.line s)) (line_then s) (subst (λ xs. IsFrontOf (before.ledger.line s) xs) (line_later s) (means.grows r.late s));
     confirmed = λ n l t versions v i j.
         (let c = covers.versions n l t versions v (sent (Told (told.Committed n l t versions)) tt i) j in

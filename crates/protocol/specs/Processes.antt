@@ -17,7 +17,7 @@ use Rattle.protocol.specs.Ledger as ledgers
 use Rattle.protocol.specs.World.{KeptAsk, Node, Running, has_life, first_node}
 use Rattle.protocol.specs.Nodes.{Place, Left, NodeWork, NodeAnswer, asked, asked_tenure, begun, finished_with, aborted, forgotten, resent, may_restart, received, brought, unless_spent}
 use Rattle.protocol.specs.Replay.{Farm, Event, run, scheduled, receiver}
-use Rattle.protocol.specs.Safe.{HoldsContent}
+use Rattle.protocol.specs.Safe.{HoldsContent, Rising}
 use Rattle.protocol.specs.Lawful.{IsNumber}
 use Rattle.protocol.specs.Follows.{IsFarm}
 
@@ -270,7 +270,17 @@ pub record StaySafe (sha : List ℕ → Digest) (processes later : Processes) : 
       → Executes (processes.nodes node.0) grant wants → In want wants → wants_shared want ≡ true
       → (holder : Grant) × (others : List Want) × Executes (processes.nodes node.0) holder others
       × (is_tenure holder.kind ≡ true) × Has holder (only_slot want.folder)
-  -- a line on the disk only grows
+  -- a ticket that was given, of which there is neither a lease nor a version, is on no line from then on, whatever late
+  -- Commit comes: so of each lease that a withdrawal, a retirement, a newer life or a restart has ended
+  pub over : (ledger : Ledger) (ticket : Ticket) → processes.coordinator.memory ≡ Some ledger
+      → ticket.0 ≤ ledger.last
+      → ((lease : Lease) → In lease ledger.live → lease.ticket ≢ ticket)
+      → ((slot : Slot) (version : LineVersion) → In version (ledger.line slot) → version.ticket ≢ ticket)
+      → (slot : Slot) (version : LineVersion) → In version (later.coordinator.disk.line slot)
+      → version.ticket ≢ ticket
+  -- tickets rise along a line on the disk
+  pub rising : (slot : Slot) → Rising (later.coordinator.disk.line slot)
+  -- and it only grows
   pub lines : (slot : Slot) → IsFrontOf (processes.coordinator.disk.line slot) (later.coordinator.disk.line slot)
   -- each version that a confirmation names, once that is written, stands there on the disk
   pub confirmed : (node : NodeId) (life : Life) (ticket : Ticket) (versions : List Confirmed) (version : Confirmed)
