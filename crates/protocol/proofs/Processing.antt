@@ -9,7 +9,7 @@ use Rattle.farm_base.specs.declared.message.ToNode.TheVariants as to_node
 use Rattle.farm_base.specs.declared.message.FromCoord.TheVariants as told
 use Rattle.protocol.specs.Lists.{In, IsFrontOf, put, nth}
 use Rattle.protocol.specs.Names.{NodeId, Life, Ask, Ticket, Slot, Digest, Want}
-use Rattle.protocol.specs.Machine.{Grant, LineVersion, Machine, Fetch, Blob, Message, Said, Told, hello, acquire, HasPart, Ends_part, Keeps, Leaves}
+use Rattle.protocol.specs.Machine.{Grant, LineVersion, Machine, Fetch, Blob, Message, ToCoord, Said, Told, hello, acquire, HasPart, Ends_part, Keeps, Leaves}
 use Rattle.events.specs.declared.answer.CoordRefusal.{CoordRefusal}
 use Rattle.events.specs.declared.answer.EventRefusal.TheVariants as refusal
 use Rattle.events.specs.declared.answer.Outcome.{Outcome}
@@ -23,7 +23,7 @@ use Rattle.protocol.specs.Nodes.{Place, guard, fetched, NodeWork, NodeAnswer, as
 use Rattle.protocol.specs.Replay.{Farm, Turn, Event, Deliver, RestartCoordinator, RestartNode, Forge, FailSave, settled, settles, coordinated, delivered, is_node, at, at_node, node_does, moved, answered, restarts, receiver, step, run, opening}
 use Rattle.protocol.specs.Replay as replay
 use Rattle.protocol.specs.Lawful.{IsNumber}
-use Rattle.protocol.specs.Processes.{Coordinator, Processes, Call, Handle, Withdraw, Prune, Retire, Nudge, MayCome, AllMayCome, decided, Batch, begin_batch, taken, batch, CoordinatorDoes, Works, Fails, Is_killed, Starts, NodeCall, Receive, Ask_lease, Ask_tenure, Begin, Finish, Abort, Resend, Bring, Forget, MayReach, node_decided, NodeDoes, Acts, Begins_life, Loses, Is_spent, Happens, Coordinator_does, Node_does, Runs, Rests, Goes_on, first_processes, IsNodeOf, IsOfLeases, IsFarmOf, AreScheduled, ProcessesAreTheFarm, Executes, StaySafe, ProcessesStaySafe, running_after, killed_after, WithdrawnStaysOut, HasAsked, OnlyHonestAreAFarm, EveryFarmIsProcesses, AllCanBeLost}
+use Rattle.protocol.specs.Processes.{Coordinator, Processes, Call, Handle, Withdraw, Prune, Retire, Nudge, MayCome, AllMayCome, decided, Batch, begin_batch, taken, batch, CoordinatorDoes, Works, Fails, Is_killed, Starts, NodeCall, Receive, Ask_lease, Ask_tenure, Begin, Finish, Abort, Resend, Bring, Forget, MayReach, node_decided, NodeDoes, Acts, Begins_life, Loses, Is_spent, Happens, Coordinator_does, Node_does, Runs, Rests, Goes_on, first_processes, IsNodeOf, IsOfLeases, IsFarmOf, AreScheduled, ProcessesAreTheFarm, Executes, StaySafe, ProcessesStaySafe, running_after, killed_after, WithdrawnStaysOut, CallEnds, EndedStaysOut, HasAsked, OnlyHonestAreAFarm, EveryFarmIsProcesses, AllCanBeLost}
 use Rattle.protocol.specs.Safe.{InUse, HoldsContent, Rising}
 use Rattle.protocol.specs.Follows.{IsFarm, SafeAfter, SavedAgrees, lease_from}
 use Rattle.protocol.specs.Chronicle.{StaysOut, Headline, IsSavedFarm, Covered}
@@ -568,6 +568,55 @@ module _ (sha : List ℕ → Digest) (k : Limits) (size : ℕ) where
       by true f = rw (e, f) (_, refl)
       by false f = rw (e, f) (_, refl)
 
+  -- a node of the farm
+  there : (n : NodeId) (b : Batch) (nodes : ℕ → Node) (pool : List Message) → IsNumber size n → is_node (up_farm b nodes pool) n ≡ true
+  there n b nodes pool number = rw (le_true 1 n.0 number.0, le_true n.0 size number.1) refl
+
+  settled_ok : (w : Work) (s : Farm) → s.armed ≡ None → (o : Outcome) × ((coordinated false (Ok w) s).outcome ≡ Ok o)
+  settled_ok w s armed = by w.changed refl
+    where
+      by : (c : Bool) → w.changed ≡ c → (o : Outcome) × ((coordinated false (Ok w) s).outcome ≡ Ok o)
+      by true f = rw (f, armed) (_, refl)
+      by false f = rw f (_, refl)
+
+  -- the farm's event for a call whose lease, or ticket, stays out from then on
+  record EndsIt (b : Batch) (w : Work) (t : Ticket) (nodes : ℕ → Node) (pool : List Message) : Type 0 where
+    pub event : Event
+    pub is : (step sha k (up_farm b nodes pool) event).farm ≡ (coordinated false (Ok w) (up_farm b nodes pool)).farm
+    pub out : StaysOut sha k (step sha k (up_farm b nodes pool) event).farm t
+
+  withdraw_ends : (b : Batch) (nodes : ℕ → Node) (pool : List Message) (t : Ticket) (w : Work) → withdrawn k t (begin_work b.ledger) ≡ Ok w → Headline sha k (up_farm b nodes pool) → EndsIt b w t nodes pool
+  withdraw_ends b nodes pool t w ok head = (let ws = withdraw_step b nodes pool t w ok in record { event = replay.Withdraw t; is = ws.0; out = head.withdrawn t ws.1.0 ws.1.1 })
+
+  retire_ends : (b : Batch) (nodes : ℕ → Node) (pool : List Message) (n : NodeId) (w : Work) (g : Lease) → IsNumber size n → retired k n (begin_work b.ledger) ≡ Ok w → In g b.ledger.live → g.node ≡ n → Headline sha k (up_farm b nodes pool) → EndsIt b w g.ticket nodes pool
+  unfolding step
+  retire_ends b nodes pool n w g number ok i at head =
+      let s : Farm = up_farm b nodes pool in
+      let here = there n b nodes pool number in
+      let did : step sha k s (replay.Retire n) ≡ coordinated false (Ok w) s = rw (here, ok) refl in
+      let o = settled_ok w s refl in
+      record { event = replay.Retire n; is = ap (λ (z : Turn). z.farm) did; out = head.retired n o.0 (ap (λ (z : Turn). z.outcome) did ∙ o.1) g i at }
+
+  handle_ends : (b : Batch) (nodes : ℕ → Node) (pool : List Message) (y : ToCoord) (w : Work) (g : Lease) → In (Said y) pool → ◌≡◌ {A = Result Work CoordRefusal} (Ok (handled k y (begin_work b.ledger))) (Ok w) → In g b.ledger.live
+      → b.ledger.gone y.node.0 ≡ false → b.ledger.lives y.node.0 < y.life.0 → g.node ≡ y.node → g.life.0 < y.life.0 → Headline sha k (up_farm b nodes pool) → EndsIt b w g.ticket nodes pool
+  unfolding step
+  handle_ends b nodes pool y w g sent ok i here newer at older head =
+      let s : Farm = up_farm b nodes pool in
+      let place = place_of (Said y) pool sent in
+      let found = place.1 in
+      let arrives : step sha k s (Deliver place.0) ≡ coordinated false (Ok (handled k y (begin_work b.ledger))) s = rw found refl in
+      let did : step sha k s (Deliver place.0) ≡ coordinated false (Ok w) s = arrives ∙ ap (λ r. coordinated false r s) ok in
+      let o = settled_ok w s refl in
+      record { event = Deliver place.0; is = ap (λ (z : Turn). z.farm) did; out = head.older place.0 y o.0 place.1 (ap (λ (z : Turn). z.outcome) did ∙ o.1) here newer g i at older }
+
+  call_ends : (written : List Message) (b : Batch) (nodes : ℕ → Node) (pool : List Message) (c : Call) (w : Work) (g : Lease) → MayCome size written c → Carries written pool → decided k b.ledger c ≡ Ok w → In g b.ledger.live → CallEnds b.ledger c g
+      → Headline sha k (up_farm b nodes pool) → EndsIt b w g.ticket nodes pool
+  call_ends written b nodes pool (Handle y) w g may carries ok i (here, newer, at, older) head = handle_ends b nodes pool y w g (carries (Said y) tt may) ok i here newer at older head
+  call_ends written b nodes pool (Withdraw t) w g may carries ok i at head = subst (λ z. EndsIt b w z nodes pool) (sym at) (withdraw_ends b nodes pool t w ok head)
+  call_ends written b nodes pool (Prune slot) w g may carries ok i none head = absurd none
+  call_ends written b nodes pool (Retire n) w g may carries ok i at head = retire_ends b nodes pool n w g may ok i at head
+  call_ends written b nodes pool Nudge w g may carries ok i none head = absurd none
+
   module _ (farm : IsFarm sha k) (p later : Processes) (runs : Runs sha k size (first_processes sha) p) (q : Ledger) (mem : p.coordinator.memory ≡ Some q) (early late : List Call) (t : Ticket) (w : Work) where
     abbrev first_batch : Batch
     first_batch = batch k early (begin_batch q p.coordinator.disk)
@@ -575,18 +624,22 @@ module _ (sha : List ℕ → Digest) (k : Limits) (size : ℕ) where
     abbrev next_batch : Batch
     next_batch = taken (Ok w) first_batch
 
-    stays_off : (lines : List Message) → AllMayCome size p.written early → AllMayCome size p.written late → withdrawn k t (begin_work first_batch.ledger) ≡ Ok w → HasPart (batch k late next_batch).sends lines
+    stays_off : (lines : List Message) → AllMayCome size p.written early → AllMayCome size p.written late
+        → ((nodes : ℕ → Node) (pool : List Message) → Carries p.written pool → Headline sha k (up_farm first_batch nodes pool) → EndsIt first_batch w t nodes pool)
+        → HasPart (batch k late next_batch).sends lines
         → Runs sha k size (record p { coordinator = running_after (batch k late next_batch); written = p.written ++ lines }) later
         → (s : Slot) (v : LineVersion) → In v (later.coordinator.disk.line s) → v.ticket ≡ t → ⊥
-    stays_off lines may may_late ok part more s v i at =
+    stays_off lines may may_late ends part more s v i at =
         let one = all_next sha k size (first_processes sha) (first_at sha k size) p runs in
         let a = one.0 in
         let r1 = batched sha k size p a q mem early may in
         let f1 : Farm = up_farm first_batch a.nodes r1.0.after in
         let d = decides sha k size a.nodes first_batch r1.0.after r1.0.sent (Ok w) in
-        let ws = withdraw_step first_batch a.nodes r1.0.after t w ok in
+        let l1 = leads_on sha k size (opening sha size) (farm_at sha k size p a) f1 one.1 r1.1 in
+        let means : Headline sha k f1 = subst (Headline sha k) l1.1 (every_schedule_means sha k farm size l1.0) in
+        let it : EndsIt first_batch w t a.nodes r1.0.after = ends a.nodes r1.0.after (λ m o i. r1.0.more m (a.written m o i)) means in
         let f2 : Farm = up_farm next_batch a.nodes d.0 in
-        let then_f2 : (step sha k f1 (replay.Withdraw t)).farm ≡ f2 = ws.0 ∙ d.1 in
+        let then_f2 : (step sha k f1 it.event).farm ≡ f2 = it.is ∙ d.1 in
         let r3 = reach sha k size a.nodes p.written late next_batch d.0 (λ m o i. d.2 m (r1.0.more m (a.written m o i))) d.3 may_late in
         let f3 : Farm = up_farm (batch k late next_batch) a.nodes r3.after in
         let next_at : At sha k size (record p { coordinator = running_after (batch k late next_batch); written = p.written ++ lines }) = record {
@@ -599,12 +652,10 @@ module _ (sha : List ℕ → Digest) (k : Limits) (size : ℕ) where
         } in
         let r4 = all_next sha k size (record p { coordinator = running_after (batch k late next_batch); written = p.written ++ lines }) next_at later more in
         let last : Farm = farm_at sha k size later r4.0 in
-        let l1 = leads_on sha k size (opening sha size) (farm_at sha k size p a) f1 one.1 r1.1 in
         let l4 = leads_on sha k size f2 f3 last r3.leads r4.1 in
-        let l2 : Leads sha k size f1 f2 = (replay.Withdraw t ∷ [], then_f2) in
+        let l2 : Leads sha k size f1 f2 = (it.event ∷ [], then_f2) in
         let all = leads_on sha k size (opening sha size) f2 last (leads_on sha k size (opening sha size) f1 f2 l1 l2) l4 in
-        let means : Headline sha k f1 = subst (Headline sha k) l1.1 (every_schedule_means sha k farm size l1.0) in
-        let out : StaysOut sha k f2 t = subst (λ f. StaysOut sha k f t) then_f2 (means.withdrawn t ws.1.0 ws.1.1) in
+        let out : StaysOut sha k f2 t = subst (λ f. StaysOut sha k f t) then_f2 it.out in
         let kept : IsSavedFarm sha last = subst (IsSavedFarm sha) all.1 (every_farm_is_saved sha k farm size all.0) in
         let same : later.coordinator.disk.line s ≡ last.ledger.line s = ap (λ (d : Saved). d.line s) (kept.up refl) in
         out.off_line l4.0 s v (subst (λ (f : Farm). In v (f.ledger.line s)) (sym l4.1) (subst (In v) same i)) at
@@ -616,7 +667,19 @@ withdrawn_stays_out sha k farm size p later runs q early late t w lines mem may 
     stays_off sha k size farm p later runs q mem early late t w lines
     (λ x i. may x (in_left x early (Withdraw t ∷ late) i))
     (λ x i. may x (in_right x early (Withdraw t ∷ late) (inr i)))
-    ok (subst (λ (z : Batch). HasPart z.sends lines) done part)
+    (λ nodes pool carries means. withdraw_ends sha k size b nodes pool t w ok means)
+    (subst (λ (z : Batch). HasPart z.sends lines) done part)
+    (subst (λ (z : Batch). Runs sha k size (record p { coordinator = running_after z; written = p.written ++ lines }) later) done more)
+
+pub ended_stays_out : EndedStaysOut
+ended_stays_out sha k farm size p later runs q early late c g w lines mem may ok i ends part more =
+    let b : Batch = batch k early (begin_batch q p.coordinator.disk) in
+    let done : batch k (early ++ c ∷ late) (begin_batch q p.coordinator.disk) ≡ batch k late (taken (Ok w) b) = batch_append k early (c ∷ late) (begin_batch q p.coordinator.disk) ∙ ap (λ r. batch k late (taken r b)) ok in
+    stays_off sha k size farm p later runs q mem early late g.ticket w lines
+    (λ x i. may x (in_left x early (c ∷ late) i))
+    (λ x i. may x (in_right x early (c ∷ late) (inr i)))
+    (λ nodes pool carries means. call_ends sha k size p.written b nodes pool c w g (may c (in_right c early (c ∷ late) (inl refl))) carries ok i ends means)
+    (subst (λ (z : Batch). HasPart z.sends lines) done part)
     (subst (λ (z : Batch). Runs sha k size (record p { coordinator = running_after z; written = p.written ++ lines }) later) done more)
 
 -- ---- what processes are the farm of no schedule

@@ -316,6 +316,30 @@ WithdrawnStaysOut = (sha : List ℕ → Digest) (limits : Limits) → IsFarm sha
     → (slot : Slot) (version : LineVersion) → In version (later.coordinator.disk.line slot) → version.ticket ≡ ticket
     → ⊥
 
+-- how a call ends a lease without a version of it: it withdraws it, retires its node, or is of a newer life of that node
+abbrev pub CallEnds : Ledger → Call → Lease → Type 0
+CallEnds ledger (Handle saying) lease = (ledger.gone saying.node.0 ≡ false)
+    × (ledger.lives saying.node.0 < saying.life.0) × (lease.node ≡ saying.node) × (lease.life.0 < saying.life.0)
+CallEnds ledger (Withdraw ticket) lease = lease.ticket ≡ ticket
+CallEnds ledger (Prune slot) lease = ⊥
+CallEnds ledger (Retire node) lease = lease.node ≡ node
+CallEnds ledger Nudge lease = ⊥
+
+-- so it is of each lease that an accepted call, among others, ended in one of these ways
+abbrev pub EndedStaysOut : Type 0
+EndedStaysOut = (sha : List ℕ → Digest) (limits : Limits) → IsFarm sha limits
+    → (size : ℕ) (processes later : Processes) → Runs sha limits size (first_processes sha) processes
+    → (ledger : Ledger) (early late : List Call) (call : Call) (lease : Lease) (work : Work) (lines : List Message)
+    → processes.coordinator.memory ≡ Some ledger →
+    let before : Batch = batch limits early (begin_batch ledger processes.coordinator.disk) in
+    let after : Batch = batch limits (early ++ call ∷ late) (begin_batch ledger processes.coordinator.disk) in
+    AllMayCome size processes.written (early ++ call ∷ late)
+    → decided limits before.ledger call ≡ Ok work → In lease before.ledger.live → CallEnds before.ledger call lease
+    → HasPart after.sends lines
+    → Runs sha limits size (record processes { coordinator = running_after after; written = processes.written ++ lines }) later
+    → (slot : Slot) (version : LineVersion) → In version (later.coordinator.disk.line slot)
+    → version.ticket ≡ lease.ticket → ⊥
+
 -- ---- and it is so of no others
 
 -- the node made the ask, in its life or an older one

@@ -2,7 +2,7 @@
 ghost use Rattle.protocol.specs.Follows.{EveryScheduleIsSafe, EveryScheduleStaysSafe, EveryEventIsMoves, EveryDecisionFollows, FittingAskIsGranted};
 ghost use Rattle.protocol.specs.Chronicle.{EveryScheduleHasAChronicle, EveryScheduleMeans, EveryVersionIsAnswered, NoParkedAskIsReady, FittingMessageIsGranted, NoParkedAskCouldBeGranted, EveryAskIsAnswered, EveryFarmIsSaved, EveryRecordCovers, RestartReadsTheRecord};
 ghost use Rattle.protocol.specs.Lawful.{EveryLedgerStaysLawful, EveryFarmStaysLawful, EveryOpeningIsLawful};
-ghost use Rattle.protocol.specs.Processes.{AllCanBeLost, EveryFarmIsProcesses, OnlyHonestAreAFarm, ProcessesAreTheFarm, ProcessesStaySafe, WithdrawnStaysOut};
+ghost use Rattle.protocol.specs.Processes.{AllCanBeLost, EveryFarmIsProcesses, EndedStaysOut, OnlyHonestAreAFarm, ProcessesAreTheFarm, ProcessesStaySafe, WithdrawnStaysOut};
 ghost use Rattle.protocol.specs.Hostile.{EveryRaidIsSafe, EveryRaidStaysSafe, EveryRaidedDecisionFollows, EveryMessageTouchesItsOwn, EveryNodeCanBePutOut};
 ghost use Rattle.protocol.specs.HostileProcesses.{RaidedProcessesAreAFarm, RaidedProcessesStaySafe, RaidedWithdrawnStaysOut};
 ghost use Rattle.protocol.specs.Rules.{EveryEventKeepsTheFarm, EveryMessageReaches, OnlyTheRetiredAreToldSo, EveryParkedAskIsHeldUp};
@@ -116,6 +116,7 @@ pub fn processes_are_the_farm()
     ensures farm { ProcessesAreTheFarm }
     ensures safe { ProcessesStaySafe }
     ensures withdrawn { WithdrawnStaysOut }
+    ensures ended { EndedStaysOut }
     ensures honest { OnlyHonestAreAFarm }
     ensures all { EveryFarmIsProcesses }
     ensures losses { AllCanBeLost }

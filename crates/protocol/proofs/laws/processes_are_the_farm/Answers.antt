@@ -18,3 +18,6 @@ returns-clause-all c = lemmas.every_farm_is_processes
 
 pub returns-clause-losses : goal.returns-clause-losses
 returns-clause-losses c = lemmas.all_can_be_lost
+
+pub returns-clause-ended : goal.returns-clause-ended
+returns-clause-ended c = lemmas.ended_stays_out
