@@ -545,7 +545,7 @@ every_schedule_means sha k farm size events = (let r = from_opening sha k farm s
 pub every_farm_is_saved : EveryFarmIsSaved
 every_farm_is_saved sha k farm size events =
     let r = from_opening sha k farm size events in
-    record { up = up_saved sha k farm r.world r.moves (run sha k events (opening sha size)) r.shows Nudge; either = (r.world, r.moves, r.shows.saved) }
+    record { up = up_saved sha k farm r.world r.moves (run sha k events (opening sha size)) r.shows Nudge; either = (r.world, r.moves, r.shows) }
 
 pub restart_reads_the_record : RestartReadsTheRecord
 unfolding step

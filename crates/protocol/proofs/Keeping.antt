@@ -1,12 +1,12 @@
 -- What an event leaves, and whom a message reaches.
-use Rattle.std.proofs.Common.{◌≡◌, ◌≢◌, ℕ, ◌+◌, ◌≤◌, List, [], ◌∷◌, ◌++◌, Bool, true, false, not, eqb, ◌&&◌, ◌⊎◌, Option, Some, None, Result, Ok, Err, refl, sym, ◌∙◌, ap, subst, inl, inr, arith, append-nil}
-use Rattle.std.proofs.lemmas.Bool.{cases_Bool}
+use Rattle.std.proofs.Common.{◌≡◌, ◌≢◌, ℕ, ◌+◌, ◌≤◌, List, [], ◌∷◌, ◌++◌, Bool, true, false, not, eqb, ◌&&◌, ◌||◌, ◌⊎◌, Option, Some, None, Result, Ok, Err, refl, sym, ◌∙◌, ap, subst, inl, inr, arith, append-nil}
+use Rattle.std.proofs.lemmas.Bool.{cases_Bool, eqb-true, ne_eqb}
 use Rattle.std.proofs.lemmas.Bool.Decides.{nat_tests}
-use Rattle.std.specs.Prelude.{nat_le, length}
+use Rattle.std.specs.Prelude.{nat_le, length, if◌then◌else◌}
 use Rattle.std.specs.List.{list_any}
 use Rattle.protocol.specs.Lists.{In, put, nth}
-use Rattle.protocol.specs.Names.{NodeId, Digest, digest_eq}
-use Rattle.protocol.specs.Machine.{GrantedSlot, Message, Said, ToCoord, Fetch, Fetches, Blob}
+use Rattle.protocol.specs.Names.{NodeId, Life, Digest, digest_eq}
+use Rattle.protocol.specs.Machine.{GrantedSlot, Message, Said, ToCoord, Fetch, Fetches, Blob, Parked, cleared}
 use Rattle.farm_base.specs.declared.message.Message.TheVariants as to
 use Rattle.events.specs.declared.answer.CoordNote.{CoordNote}
 use Rattle.events.specs.declared.answer.CoordNote.TheVariants as coord_note
@@ -22,7 +22,8 @@ use Rattle.events.specs.declared.answer.EventRefusal.TheVariants as refusal
 use Rattle.events.specs.declared.answer.Outcome.{Outcome}
 use Rattle.events.specs.declared.answer.Kept.{Kept}
 use Rattle.events.specs.declared.answer.Kept.TheVariants.{Old, New}
-use Rattle.protocol.specs.Ledger.{Limits, Work, begin_work, handled, withdrawn, retired, pruned, nudged}
+use Rattle.protocol.specs.Ledger.{Limits, Ledger, Lease, Work, Decision, Give, Deny, Wait, another, elsewhere, decision, gives, carried_out, tried, try_all, retried, is_older, is_home, is_at, sees, newer_life, begin_work, handled, withdrawn, retired, pruned, nudged}
+use Rattle.protocol.specs.Ledger as ledger
 use Rattle.protocol.specs.World.{Holding, Node, keep}
 use Rattle.protocol.specs.Nodes.{NodeAnswer, may_restart, is_base, is_stored, received, brought, unless_spent, fetched}
 use Rattle.protocol.specs.Replay.{Event, Tenure, Deliver, Begin, Finish, Abort, Resend, Nudge, Withdraw, Prune, Retire, RestartNode, RestartCoordinator, Forge, Forget, FailSave, Farm, Turn, settled, coordinated, is_node, at, at_node, restarts, delivered, step, run, opening}
@@ -30,8 +31,8 @@ use Rattle.protocol.specs.Replay as replay
 use Rattle.protocol.specs.Reasons.{IsThere}
 use Rattle.protocol.specs.Meaning.{Means, MessageMeans, Answered, IsBase}
 use Rattle.protocol.specs.Follows.{Agrees}
-use Rattle.protocol.specs.Rules.{RefusedLeaves, KeepsTheFarm, EveryEventKeepsTheFarm, AnswersBy, EveryMessageReaches, OnlyTheRetiredAreToldSo, EveryParkedAskIsHeldUp}
-use Rattle.protocol.proofs.Base.{eqb_same, any_in, nth_in, digest_eq_same}
+use Rattle.protocol.specs.Rules.{RefusedLeaves, KeepsTheFarm, EveryEventKeepsTheFarm, AnswersBy, EveryMessageReaches, OnlyTheRetiredAreToldSo, EveryParkedAskIsHeldUp, TheOldHomeIsHeeded}
+use Rattle.protocol.proofs.Base.{true_false, eqb_same, any_in, nth_in, digest_eq_same}
 use Rattle.protocol.proofs.Leases.{Core, core_of}
 use Rattle.protocol.proofs.Parking.{parked_held_up}
 use Rattle.protocol.proofs.Wanting.{held_up}
@@ -172,3 +173,84 @@ every_parked_ask_is_held_up sha k farm size events u shows p i =
     let s : Farm = run sha k events (opening sha size) in
     let core : Core k.empty u.machine s.ledger = core_of k.empty u.pool u.machine s.ledger (subst (λ z. Agrees z u.pool u.machine s.ledger) (sym farm.empty) shows.now) in
     held_up k u.machine s.ledger core p (parked_held_up sha k size events p (subst (In p) (sym shows.now.parked) i))
+
+-- ---- the old home
+
+module _ (k : Limits) (q : Ledger) (home : NodeId) (at_home : q.old_home ≡ Some home) where
+  away : (p : Parked) → p.tenure ≡ true → p.node.0 ≢ home.0 → elsewhere q p ≡ true
+  away p tenure other = subst (λ o. (p.tenure && another o p.node) ≡ true) (sym at_home) (by tenure)
+    where
+      by : p.tenure ≡ true → (p.tenure && not (eqb home.0 p.node.0)) ≡ true
+      by tenure = (let ne : eqb home.0 p.node.0 ≡ false = ne_eqb home.0 p.node.0 (λ e. other (sym e)) in rw (tenure, ne) refl)
+
+  here : (p : Parked) → (p.node.0 ≡ home.0) ⊎ (p.tenure ≡ false) → elsewhere q p ≡ false
+  here p is = subst (λ o. (p.tenure && another o p.node) ≡ false) (sym at_home) (by is)
+    where
+      never : (b : Bool) → (b && false) ≡ false
+      never true = refl
+      never false = refl
+
+      by : (p.node.0 ≡ home.0) ⊎ (p.tenure ≡ false) → (p.tenure && not (eqb home.0 p.node.0)) ≡ false
+      by (inr no_tenure) = rw no_tenure refl
+      by (inl own) = (let same : eqb home.0 p.node.0 ≡ true = subst (λ z. eqb home.0 z ≡ true) (sym own) (eqb_same home.0) in rw same (never p.tenure))
+
+  others_wait : (p : Parked) → p.tenure ≡ true → p.node.0 ≢ home.0 → decision k q p ≡ Wait
+  unfolding decision
+  others_wait p tenure other = (let e = away p tenure other in rw e refl)
+
+  own_decided : (p : Parked) → (p.node.0 ≡ home.0) ⊎ (p.tenure ≡ false) → decision k q p ≡ decision k (record q { old_home = None }) p
+  unfolding decision
+  own_decided p is = (let e = here p is in let none : (p.tenure && false) ≡ false = never p.tenure in rw (e, none) refl)
+    where
+      never : (b : Bool) → (b && false) ≡ false
+      never true = refl
+      never false = refl
+
+  tried_home : (p : Parked) (w : Work) → (tried k p w).ledger.old_home ≡ w.ledger.old_home
+  unfolding tried gives
+  tried_home p w = by (decision k w.ledger p)
+    where
+      by : (d : Decision) → (carried_out k d p w).ledger.old_home ≡ w.ledger.old_home
+      by Give = refl
+      by (Deny why) = refl
+      by Wait = refl
+
+  all_home : (ps : List Parked) (w : Work) → (try_all k ps w).ledger.old_home ≡ w.ledger.old_home
+  all_home [] w = refl
+  all_home (p ∷ ps) w = all_home ps (tried k p w) ∙ tried_home p w
+
+  retried_home : (w : Work) → (retried k w).ledger.old_home ≡ w.ledger.old_home
+  unfolding retried
+  retried_home w = all_home w.ledger.parked w
+
+  newer_home : (n : NodeId) (l : Life) → (newer_life k n l (begin_work q)).ledger.old_home ≡ cleared n q.old_home
+  unfolding newer_life
+  newer_home n l = elim (cases_Bool (list_any (is_older n l) q.live || is_home n q.old_home)) [
+    | inl t ↦ rw t (retried_home (sees n l (begin_work q)))
+    | inr t ↦ rw t refl
+  ]
+
+  leaves_home : (n : NodeId) (l : Life) → (newer_life k n l (begin_work q)).ledger.old_home ≡ (if eqb n.0 home.0 then None else Some home)
+  leaves_home n l = newer_home n l ∙ ap (cleared n) at_home ∙ by (cases_Bool (eqb home.0 n.0))
+    where
+      by : (eqb home.0 n.0 ≡ true) ⊎ (eqb home.0 n.0 ≡ false) → cleared n (Some home) ≡ (if eqb n.0 home.0 then None else Some home)
+      by (inl t) = (let u : eqb n.0 home.0 ≡ true = subst (λ z. eqb n.0 z ≡ true) (sym (eqb-true home.0 n.0 t)) (eqb_same n.0) in rw (t, u) refl)
+      by (inr f) = (let u : eqb n.0 home.0 ≡ false = ne_eqb n.0 home.0 (λ e. true_false (eqb home.0 n.0) (subst (λ z. eqb home.0 z ≡ true) (sym e) (eqb_same home.0)) f) in rw (f, u) refl)
+
+  not_retired : q.gone home.0 ≡ false → ledger.retired k home (begin_work q) ≡ Err coord.TenureHeld
+  not_retired stays =
+      let is : is_home home q.old_home ≡ true = subst (λ o. is_home home o ≡ true) (sym at_home) (eqb_same home.0) in
+      let held : (list_any (λ (g : Lease). is_at home g && g.tenure) q.live || is_home home q.old_home) ≡ true = or_right (list_any (λ (g : Lease). is_at home g && g.tenure) q.live) (is_home home q.old_home) is in
+      rw (stays, held) refl
+    where
+      or_right : (a b : Bool) → b ≡ true → (a || b) ≡ true
+      or_right true b e = refl
+      or_right false b e = e
+
+pub the_old_home_is_heeded : TheOldHomeIsHeeded
+the_old_home_is_heeded k q home at_home = record {
+  others_wait = others_wait k q home at_home;
+  own = own_decided k q home at_home;
+  leaves = leaves_home k q home at_home;
+  stays = not_retired k q home at_home;
+}

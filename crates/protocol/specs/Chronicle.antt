@@ -23,7 +23,7 @@ use Rattle.protocol.specs.Safe.{HoldsContent, Rising, Safe, SafeSince}
 use Rattle.protocol.specs.Replay.{Event, Deliver, Begin, Withdraw, Retire, RestartNode, RestartCoordinator, FailSave, Farm, Turn, step, run, opening, scheduled}
 use Rattle.protocol.specs.Meaning.{adds, StopsAt, IsElsewhere, AreFree, AllTaken, CouldBeGranted, IsHeldUp, IsOf, Means}
 use Rattle.protocol.specs.Reasons.{decision_at, Fair}
-use Rattle.protocol.specs.Follows.{IsFarm, SavedAgrees, Shows, NoneReady, after_life, MayBeGranted}
+use Rattle.protocol.specs.Follows.{IsFarm, Shows, NoneReady, after_life, MayBeGranted}
 
 -- the grants of two tickets, as they were sent, share no slot of a PRIVATE or SHARED folder
 abbrev pub NoneShared : List Message → Ticket → Ticket → Type 0
@@ -339,7 +339,7 @@ EveryAskIsAnswered = (sha : List ℕ → Digest) (limits : Limits) → IsFarm sh
 -- machine that the save kept
 pub record IsSavedFarm (sha : List ℕ → Digest) (farm : Farm) : Type 0 where
   pub up : farm.down ≡ false → farm.saved ≡ saves farm.ledger
-  pub either : (world : World) × Moves sha (start sha) world × SavedAgrees (sha []) world.pool world.down farm
+  pub either : (world : World) × Moves sha (start sha) world × Shows sha world farm
 
 abbrev pub EveryFarmIsSaved : Type 0
 EveryFarmIsSaved = (sha : List ℕ → Digest) (limits : Limits) → IsFarm sha limits → (size : ℕ) (events : List Event)

@@ -1,8 +1,8 @@
 -- What the rules are beside the headline: what no event changes, whom a message reaches, and what a parked ask waits for
 -- (docs/PROOFS.md, "What is accepted").
-use Rattle.std.specs.Prelude.{◌≡◌, ◌≢◌, ℕ, ◌+◌, true, false, ◌⊎◌, None, Some, List, [], ◌∷◌, ◌++◌, length, Result, Ok, Err}
+use Rattle.std.specs.Prelude.{◌≡◌, ◌≢◌, ℕ, ◌+◌, ◌==◌, if◌then◌else◌, true, false, ◌⊎◌, None, Some, List, [], ◌∷◌, ◌++◌, length, Result, Ok, Err}
 use Rattle.protocol.specs.Lists.{In, put, nth}
-use Rattle.protocol.specs.Names.{Private, NodeId, Digest, Want}
+use Rattle.protocol.specs.Names.{Private, NodeId, Life, Digest, Want}
 use Rattle.protocol.specs.Machine.{Message, Said, ToCoord, Fetch, Fetches, Blob, Parked, Machine, Leased}
 use Rattle.events.specs.declared.answer.CoordNote.TheVariants as coord
 use Rattle.events.specs.declared.answer.CoordRefusal.TheVariants as coord_refusal
@@ -12,7 +12,7 @@ use Rattle.events.specs.declared.answer.EventNote.TheVariants as note
 use Rattle.events.specs.declared.answer.EventRefusal.{EventRefusal}
 use Rattle.events.specs.declared.answer.EventRefusal.TheVariants as refusal
 use Rattle.events.specs.declared.answer.Outcome.{Outcome}
-use Rattle.protocol.specs.Ledger.{Limits}
+use Rattle.protocol.specs.Ledger.{Limits, Ledger, begin_work, Wait, decision, newer_life, retired}
 use Rattle.protocol.specs.World.{World}
 use Rattle.protocol.specs.Replay.{Event, Deliver, RestartNode, Farm, Turn, step, scheduled}
 use Rattle.protocol.specs.Meaning.{takes_slot, instance_of, IsBase, IsElsewhere}
@@ -99,3 +99,25 @@ EveryParkedAskIsHeldUp = (sha : List ℕ → Digest) (limits : Limits) → IsFar
     → (size : ℕ) (events : List Event) (world : World) → Shows sha world (scheduled sha limits size events)
     → (parked : Parked) → In parked world.machine.parked
     → IsElsewhere world.machine parked ⊎ WaitsForSlot world.machine parked
+
+-- ---- the old home
+
+module _ (limits : Limits) where
+  -- of any ledger whose old home is this node, whether or not a schedule leads to it: none does, since a farm begins
+  -- without an old home
+  pub record HeedsTheOldHome (ledger : Ledger) (home : NodeId) : Type 0 where
+    -- another node's ask for a tenure waits
+    pub others_wait : (parked : Parked) → parked.tenure ≡ true → parked.node.0 ≢ home.0
+        → decision limits ledger parked ≡ Wait
+    -- its own, and each ask for a lease, is decided on as if there were none
+    pub own : (parked : Parked) → (parked.node.0 ≡ home.0) ⊎ (parked.tenure ≡ false)
+        → decision limits ledger parked ≡ decision limits (record ledger { old_home = None }) parked
+    -- a newer life of it leaves no old home, one of another node leaves it
+    pub leaves : (node : NodeId) (life : Life) → (newer_life limits node life (begin_work ledger)).ledger.old_home
+        ≡ (if node.0 == home.0 then None else Some home)
+    -- it can't be retired
+    pub stays : ledger.gone home.0 ≡ false → retired limits home (begin_work ledger) ≡ Err coord_refusal.TenureHeld
+
+abbrev pub TheOldHomeIsHeeded : Type 0
+TheOldHomeIsHeeded = (limits : Limits) (ledger : Ledger) (home : NodeId) → ledger.old_home ≡ Some home
+    → HeedsTheOldHome limits ledger home

@@ -5,7 +5,7 @@ ghost use Rattle.protocol.specs.Lawful.{EveryLedgerStaysLawful, EveryFarmStaysLa
 ghost use Rattle.protocol.specs.Processes.{AllCanBeLost, EveryFarmIsProcesses, EndedStaysOut, OnlyHonestAreAFarm, ProcessesAreTheFarm, ProcessesStaySafe, WithdrawnStaysOut};
 ghost use Rattle.protocol.specs.Hostile.{EveryRaidIsSafe, EveryRaidStaysSafe, EveryRaidedDecisionFollows, EveryMessageTouchesItsOwn, EveryNodeCanBePutOut};
 ghost use Rattle.protocol.specs.HostileProcesses.{RaidedProcessesAreAFarm, RaidedProcessesStaySafe, RaidedWithdrawnStaysOut};
-ghost use Rattle.protocol.specs.Rules.{EveryEventKeepsTheFarm, EveryMessageReaches, OnlyTheRetiredAreToldSo, EveryParkedAskIsHeldUp};
+ghost use Rattle.protocol.specs.Rules.{EveryEventKeepsTheFarm, EveryMessageReaches, OnlyTheRetiredAreToldSo, EveryParkedAskIsHeldUp, TheOldHomeIsHeeded};
 ghost use Rattle.protocol.specs.Witnesses.{RisingIsOfAnyTwo, FallingIsOfAnyTwo, PrivateAndSharedAreAlone, AnAcceptedBeginExecutes, WhatIsSparedGoesOn, WhatIsLearnedIsHeld};
 ghost use Rattle.protocol.specs.Safe.{EveryRunIsSafe, EveryRunStaysSafe};
 
@@ -72,6 +72,12 @@ pub fn every_ask_is_answered()
 /// A parked ask waits for a leased slot, or for another node that is the old home, and for nothing else.
 pub fn every_parked_ask_is_held_up()
     ensures { EveryParkedAskIsHeldUp }
+{}
+
+/// On any ledger that has an old home: other nodes' asks for a tenure wait for it, it can't be retired, and its newer
+/// life ends that.
+pub fn the_old_home_is_heeded()
+    ensures { TheOldHomeIsHeeded }
 {}
 
 /// No event changes how many nodes a farm has, and a refused one changes nothing, but where a save failed or a node's
