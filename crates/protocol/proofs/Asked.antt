@@ -23,7 +23,7 @@ use Rattle.protocol.proofs.Worlds.{moves_inv, start_whole}
 use Rattle.protocol.proofs.Leases.{Core, core_of, grant-lease, find_some, find_none, find_in}
 use Rattle.protocol.proofs.Following.{pick_give}
 use Rattle.protocol.proofs.Parking.{Fewer, less_ready, newer_was, not_cleared, no_parked_ask_is_ready}
-use Rattle.protocol.proofs.Wanting.{names_are, could_give, held_waits, elsewhere_waits, spent_denies, tickets_deny}
+use Rattle.protocol.proofs.Wanting.{names_are, give_could, could_give, held_waits, elsewhere_waits, spent_denies, tickets_deny}
 use Rattle.protocol.proofs.Asking.{only_itself}
 use Rattle.protocol.proofs.Answering.{fitting_ask_is_granted}
 
@@ -196,6 +196,16 @@ module _ (k : Limits) (m : Machine) (q : Ledger) (core : Core k.empty m q) where
       left_ticket : (a b : ℕ) → not (nat_lt a b) ≡ false → nat_lt a b ≡ true
       left_ticket a b h = grind (arith, nat_tests)
 
+-- what is answered Granted was decided on so
+given_by : (k : Limits) (b : Bool) (p : Parked) (w : Work) (g : Grant) → (acquiring k None b p w).note ≡ note.Granted g → decision k w.ledger p ≡ Give
+given_by k true p w g e = cc
+given_by k false p w g e = by (decision k w.ledger p) e
+  where
+    by : (d : Decision) → (decided k d p w).note ≡ note.Granted g → d ≡ Give
+    by Give e = refl
+    by (Deny why) e = cc
+    by Wait e = cc
+
 pub every_ask_is_answered : EveryAskIsAnswered
 every_ask_is_answered sha k farm size events u moves shows p sent here = record {
   before = λ now g live of.
@@ -216,6 +226,9 @@ every_ask_is_answered sha k farm size events u moves shows p sent here = record 
       (let may = may_after k u.machine q core p ends none could in
       let r = fitting_ask_is_granted k p (begin_work q) (no_parked_ask_is_ready sha k size events) (only_itself sha k farm size events u moves shows p sent) here' (current ends) may in
       (_, r.0));
+  could = λ ends none g told.
+      (let v : Work = seen k u.machine q core p in
+      give_could k u.machine q core p (sym (decision_after k u.machine q core p ends) ∙ given_by k (is_parked v.ledger.parked p.node p.life p.ask) p v g (sym (ap (λ (w : Work). w.note) (answer ends none)) ∙ told)));
   elsewhere = λ ends none away. waits ends none (elsewhere_waits k u.machine q core p away);
   instances = λ ends new tenure w i private all. denied ends new InstancesSpent (spent_denies k u.machine q core p w tenure i private all);
   tickets = λ ends new at_home free spent. denied ends new TicketsSpent (tickets_deny k u.machine q core p at_home free spent);

@@ -14,7 +14,7 @@ use Rattle.protocol.specs.Meaning.{IsAsk, StopsAt}
 use Rattle.protocol.specs.Safe.{HoldsContent, Rising, Falling}
 use Rattle.protocol.specs.Chronicle.{GoesOn}
 use Rattle.protocol.specs.Processes.{Executes}
-use Rattle.protocol.specs.Witnesses.{RisingIsOfAnyTwo, FallingIsOfAnyTwo, PrivateAndSharedAreAlone, AnAcceptedBeginExecutes, Spares, WhatIsSparedGoesOn, WhatIsLearnedIsHeld}
+use Rattle.protocol.specs.Witnesses.{RisingIsOfAnyTwo, FallingIsOfAnyTwo, PrivateAndSharedAreAlone, WhatIsWantedIsWantedUnder, EveryEndIsSeen, TheseCallsEndLeases, AnAcceptedBeginExecutes, Spares, WhatIsSparedGoesOn, WhatIsLearnedIsHeld}
 use Rattle.names.proofs.CompareLaws.{slot_exact, slot_eq-itself}
 use Rattle.protocol.proofs.Base.{none_some, some_is, get_in, nth-set_same, eqb_same}
 use Rattle.protocol.proofs.Moving.{found, held_is}
@@ -140,3 +140,19 @@ gets_known (u ∷ us) v known (inr i) alone = gets_known us v (learn u.slot u.nu
 
 pub what_is_learned_is_held : WhatIsLearnedIsHeld
 what_is_learned_is_held x t place sent versions v c i alone stored = (v.digest, gets_known versions v x.known i alone, stored)
+
+-- ---- what ends
+
+pub what_is_wanted_is_wanted_under : WhatIsWantedIsWantedUnder
+what_is_wanted_is_wanted_under pool g wants w sent asked i = (g, wants, w, (sent, refl), asked, i, refl)
+
+pub every_end_is_seen : EveryEndIsSeen
+every_end_is_seen empty m = record {
+  on_line = λ s v i. (s, v, i, refl);
+  withdrawn = λ t e. inl e;
+  died = λ t e. inr e;
+  present = λ n l e. inl e;
+}
+
+pub these_calls_end_leases : TheseCallsEndLeases
+these_calls_end_leases q g = record { withdrawal = refl; retirement = refl; newer_life = λ y here at newer older. (here, newer, sym at, older) }

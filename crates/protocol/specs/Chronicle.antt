@@ -122,6 +122,10 @@ module _ (limits : Limits) where
     pub granted : EndsNothing machine asked.node asked.life
         → ((grant : Grant) → Live machine grant → IsOf asked.node asked.life asked.ask grant → ⊥)
         → CouldBeGranted limits machine asked → (grant : Grant) × (answer ≡ coord.Granted grant)
+    -- and no other
+    pub could : EndsNothing machine asked.node asked.life
+        → ((grant : Grant) → Live machine grant → IsOf asked.node asked.life asked.ask grant → ⊥)
+        → (grant : Grant) → answer ≡ coord.Granted grant → CouldBeGranted limits machine asked
     -- one that must wait for another node waits
     pub elsewhere : EndsNothing machine asked.node asked.life
         → ((grant : Grant) → Live machine grant → IsOf asked.node asked.life asked.ask grant → ⊥)

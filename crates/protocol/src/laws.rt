@@ -6,7 +6,7 @@ ghost use Rattle.protocol.specs.Processes.{AllCanBeLost, EveryFarmIsProcesses, E
 ghost use Rattle.protocol.specs.Hostile.{EveryRaidIsSafe, EveryRaidStaysSafe, EveryRaidedDecisionFollows, EveryMessageTouchesItsOwn, EveryNodeCanBePutOut};
 ghost use Rattle.protocol.specs.HostileProcesses.{RaidedProcessesAreAFarm, RaidedProcessesStaySafe, RaidedWithdrawnStaysOut};
 ghost use Rattle.protocol.specs.Rules.{EveryEventKeepsTheFarm, EveryMessageReaches, OnlyTheRetiredAreToldSo, EveryParkedAskIsHeldUp, TheOldHomeIsHeeded};
-ghost use Rattle.protocol.specs.Witnesses.{RisingIsOfAnyTwo, FallingIsOfAnyTwo, PrivateAndSharedAreAlone, AnAcceptedBeginExecutes, WhatIsSparedGoesOn, WhatIsLearnedIsHeld};
+ghost use Rattle.protocol.specs.Witnesses.{RisingIsOfAnyTwo, FallingIsOfAnyTwo, PrivateAndSharedAreAlone, AnAcceptedBeginExecutes, WhatIsSparedGoesOn, WhatIsWantedIsWantedUnder, EveryEndIsSeen, TheseCallsEndLeases, WhatIsLearnedIsHeld};
 ghost use Rattle.protocol.specs.Safe.{EveryRunIsSafe, EveryRunStaysSafe};
 
 /// Every run of the world is safe, and stays so from any world to any later one: whatever is sent, lost,
@@ -163,5 +163,8 @@ pub fn the_words_reach_what_they_say()
     ensures alone { PrivateAndSharedAreAlone }
     ensures executes { AnAcceptedBeginExecutes }
     ensures goes_on { WhatIsSparedGoesOn }
+    ensures wanted { WhatIsWantedIsWantedUnder }
+    ensures ends { EveryEndIsSeen }
+    ensures calls { TheseCallsEndLeases }
     ensures held { WhatIsLearnedIsHeld }
 {}

@@ -18,3 +18,12 @@ returns-clause-goes_on c = lemmas.what_is_spared_goes_on
 
 pub returns-clause-held : goal.returns-clause-held
 returns-clause-held c = lemmas.what_is_learned_is_held
+
+pub returns-clause-wanted : goal.returns-clause-wanted
+returns-clause-wanted c = lemmas.what_is_wanted_is_wanted_under
+
+pub returns-clause-ends : goal.returns-clause-ends
+returns-clause-ends c = lemmas.every_end_is_seen
+
+pub returns-clause-calls : goal.returns-clause-calls
+returns-clause-calls c = lemmas.these_calls_end_leases
