@@ -542,7 +542,7 @@ module _ (sha : List ℕ → Digest) (k : Limits) (farm : IsFarm sha k) (size : 
     confirmed = λ n l t versions v i j.
         (let c = covers.versions n l t versions v (sent (Told (told.Committed n l t versions)) tt i) j in
         (c.0, c.1, subst (λ (d : Saved). slice_get (d.line v.slot) c.0 ≡ Some (record { ticket = t; digest = v.digest })) r.after.disk c.2));
-    fenced = λ n l t i s v j at. means.fenced n l t (r.before.written (Told (told.Fenced n l t)) tt i) r.late s v (subst (In v) (sym (line_later s)) j) at;
+    fenced = λ n l t i s v j at. means.also.fenced n l t (r.before.written (Told (told.Fenced n l t)) tt i) r.late s v (subst (In v) (sym (line_later s)) j) at;
     tickets = λ g i. subst (λ (d : Saved). g.ticket.0 ≤ d.ceiling) r.after.disk (covers.tickets g (sent (Told (told.Granted g)) tt i));
   }
 
@@ -595,7 +595,7 @@ module _ (sha : List ℕ → Digest) (k : Limits) (size : ℕ) where
       let here = there n b nodes pool number in
       let did : step sha k s (replay.Retire n) ≡ coordinated false (Ok w) s = rw (here, ok) refl in
       let o = settled_ok w s refl in
-      record { event = replay.Retire n; is = ap (λ (z : Turn). z.farm) did; out = head.retired n o.0 (ap (λ (z : Turn). z.outcome) did ∙ o.1) g i at }
+      record { event = replay.Retire n; is = ap (λ (z : Turn). z.farm) did; out = head.also.retired n o.0 (ap (λ (z : Turn). z.outcome) did ∙ o.1) g i at }
 
   handle_ends : (b : Batch) (nodes : ℕ → Node) (pool : List Message) (y : ToCoord) (w : Work) (g : Lease) → In (Said y) pool → ◌≡◌ {A = Result Work CoordRefusal} (Ok (handled k y (begin_work b.ledger))) (Ok w) → In g b.ledger.live
       → b.ledger.gone y.node.0 ≡ false → b.ledger.lives y.node.0 < y.life.0 → g.node ≡ y.node → g.life.0 < y.life.0 → Headline sha k (up_farm b nodes pool) → EndsIt b w g.ticket nodes pool
@@ -607,7 +607,7 @@ module _ (sha : List ℕ → Digest) (k : Limits) (size : ℕ) where
       let arrives : step sha k s (Deliver place.0) ≡ coordinated false (Ok (handled k y (begin_work b.ledger))) s = rw found refl in
       let did : step sha k s (Deliver place.0) ≡ coordinated false (Ok w) s = arrives ∙ ap (λ r. coordinated false r s) ok in
       let o = settled_ok w s refl in
-      record { event = Deliver place.0; is = ap (λ (z : Turn). z.farm) did; out = head.older place.0 y o.0 place.1 (ap (λ (z : Turn). z.outcome) did ∙ o.1) here newer g i at older }
+      record { event = Deliver place.0; is = ap (λ (z : Turn). z.farm) did; out = head.also.older place.0 y o.0 place.1 (ap (λ (z : Turn). z.outcome) did ∙ o.1) here newer g i at older }
 
   call_ends : (written : List Message) (b : Batch) (nodes : ℕ → Node) (pool : List Message) (c : Call) (w : Work) (g : Lease) → MayCome size written c → Carries written pool → decided k b.ledger c ≡ Ok w → In g b.ledger.live → CallEnds b.ledger c g
       → Headline sha k (up_farm b nodes pool) → EndsIt b w g.ticket nodes pool

@@ -200,13 +200,9 @@ module _ (sha : List ℕ → Digest) (limits : Limits) where
       ⊎ ((answer farm event ≡ Err (refusal.Coord coord_refusal.SaveFault))
       × NamesVersion (unarmed farm) event slot version)
 
-  -- of a farm that a schedule led to, and one more event
-  pub record Headline (farm : Farm) : Type 0 where
-    -- after an accepted withdrawal nothing commits under the ticket, and it is on no line
-    pub withdrawn : (ticket : Ticket) (outcome : Outcome)
-        → answer farm (Withdraw ticket) ≡ Ok outcome
-        → StaysOut (after farm (Withdraw ticket)) ticket
-    -- so for each lease of a node that is retired
+  -- of a farm that a schedule led to, and one more event: what holds beside the headline's promises
+  pub record AlsoHolds (farm : Farm) : Type 0 where
+    -- so it is for each lease of a node that is retired
     pub retired : (node : NodeId) (outcome : Outcome)
         → answer farm (Retire node) ≡ Ok outcome
         → (lease : Lease) → In lease farm.ledger.live → lease.node ≡ node
@@ -218,6 +214,19 @@ module _ (sha : List ℕ → Digest) (limits : Limits) where
         → farm.ledger.lives saying.node.0 < saying.life.0
         → (lease : Lease) → In lease farm.ledger.live → lease.node ≡ saying.node → lease.life.0 < saying.life.0
         → StaysOut (after farm (Deliver number)) lease.ticket
+    -- and for each lease that the record doesn't have, once a coordinator that was up restarts
+    pub restarted : farm.down ≡ false → (lease : Lease) → In lease farm.ledger.live → is_saved lease ≡ false
+        → StaysOut (after farm RestartCoordinator) lease.ticket
+    -- what was ever fenced is on no line
+    pub fenced : (node : NodeId) (life : Life) (ticket : Ticket) → In (Told (told.Fenced node life ticket)) farm.pool
+        → (late : List Event) (slot : Slot) (version : LineVersion)
+        → In version ((after_all farm late).ledger.line slot) → version.ticket ≡ ticket → ⊥
+    -- an accepted event makes a line longer by exactly what its answer names
+    pub answered : farm.down ≡ false → (event : Event) (outcome : Outcome)
+        → answer farm event ≡ Ok outcome
+        → (slot : Slot)
+        → (after farm event).ledger.line slot
+        ≡ farm.ledger.line slot ++ adds limits.empty farm.pool event outcome.note slot
     -- from an accepted begin on, until an event that ends it, none begins that shares a PRIVATE or SHARED slot with it
     pub alone : (node node' : NodeId) (ticket ticket' : Ticket) (late : List Event) (outcome outcome' : Outcome)
         → answer farm (Begin node ticket) ≡ Ok outcome
@@ -236,32 +245,6 @@ module _ (sha : List ℕ → Digest) (limits : Limits) where
     pub one_ask : (node : NodeId) (life : Life) (ask : Ask) (wants wants' : List Want) (tenure tenure' : Bool)
         → In (acquire node life ask wants tenure) farm.pool → In (acquire node life ask wants' tenure') farm.pool
         → (wants ≡ wants') × (tenure ≡ tenure')
-    -- from an accepted begin on, until an event that ends it, each that begins may be at once with it
-    pub apart : (node node' : NodeId) (ticket ticket' : Ticket) (late : List Event) (outcome outcome' : Outcome)
-        → answer farm (Begin node ticket) ≡ Ok outcome
-        → GoesOn node ticket late (after farm (Begin node ticket))
-        → let later : Farm = after_all (after farm (Begin node ticket)) late in
-        answer later (Begin node' ticket') ≡ Ok outcome'
-        → MayBeAtOnce later.pool node node' ticket ticket'
-    -- what was ever fenced is on no line
-    pub fenced : (node : NodeId) (life : Life) (ticket : Ticket) → In (Told (told.Fenced node life ticket)) farm.pool
-        → (late : List Event) (slot : Slot) (version : LineVersion)
-        → In version ((after_all farm late).ledger.line slot) → version.ticket ≡ ticket → ⊥
-    -- each folder's versions form one line that only grows, with rising tickets
-    pub rising : (slot : Slot) → Rising (farm.ledger.line slot)
-    pub grows : (late : List Event) (slot : Slot)
-        → IsFrontOf (farm.ledger.line slot) ((after_all farm late).ledger.line slot)
-    -- an accepted event makes a line longer by exactly what its answer names
-    pub answered : farm.down ≡ false → (event : Event) (outcome : Outcome)
-        → answer farm event ≡ Ok outcome
-        → (slot : Slot)
-        → (after farm event).ledger.line slot
-        ≡ farm.ledger.line slot ++ adds limits.empty farm.pool event outcome.note slot
-    -- two nodes hold one content for a version, then or later, or the two contents are a collision
-    pub contents : (late : List Event) (node node' : NodeId) (slot : Slot) (number : ℕ) (content content' : List ℕ)
-        → HoldsContent (farm.nodes node.0) slot number content
-        → HoldsContent ((after_all farm late).nodes node'.0) slot number content'
-        → (content ≡ content') ⊎ ((content ≢ content') × (sha content ≡ sha content'))
     -- a node whose last life is over is down for good
     pub spent : (node : NodeId)
         → answer farm (RestartNode node) ≡ Err (refusal.Node node_refusal.LivesSpent)
@@ -272,9 +255,32 @@ module _ (sha : List ℕ → Digest) (limits : Limits) where
     pub arms : (kept : Kept) → after farm (FailSave kept) ≡ record farm { armed = Some kept }
     pub armed : (event : Event) → ((kept : Kept) → event ≢ FailSave kept)
         → LeavesArmed limits farm event (step sha limits farm event)
-    -- and for each lease that the record doesn't have, once the coordinator restarts
-    pub restarted : farm.down ≡ false → (lease : Lease) → In lease farm.ledger.live → is_saved lease ≡ false
-        → StaysOut (after farm RestartCoordinator) lease.ticket
+
+  -- the headline's four promises: one content for a version, one line that only grows, nothing that was withdrawn counts,
+  -- and no PRIVATE instance is in use by two executions
+  pub record Headline (farm : Farm) : Type 0 where
+    -- two nodes hold one content for a version, then or later, or the two contents are a collision
+    pub contents : (late : List Event) (node node' : NodeId) (slot : Slot) (number : ℕ) (content content' : List ℕ)
+        → HoldsContent (farm.nodes node.0) slot number content
+        → HoldsContent ((after_all farm late).nodes node'.0) slot number content'
+        → (content ≡ content') ⊎ ((content ≢ content') × (sha content ≡ sha content'))
+    -- each slot's versions form one line that only grows, with rising tickets
+    pub rising : (slot : Slot) → Rising (farm.ledger.line slot)
+    pub grows : (late : List Event) (slot : Slot)
+        → IsFrontOf (farm.ledger.line slot) ((after_all farm late).ledger.line slot)
+    -- after an accepted withdrawal nothing commits under the ticket, and it is on no line
+    pub withdrawn : (ticket : Ticket) (outcome : Outcome)
+        → answer farm (Withdraw ticket) ≡ Ok outcome
+        → StaysOut (after farm (Withdraw ticket)) ticket
+    -- from an accepted begin on, until an event that ends it, each that begins may be at once with it: none has the same
+    -- instance of a PRIVATE folder
+    pub apart : (node node' : NodeId) (ticket ticket' : Ticket) (late : List Event) (outcome outcome' : Outcome)
+        → answer farm (Begin node ticket) ≡ Ok outcome
+        → GoesOn node ticket late (after farm (Begin node ticket))
+        → let later : Farm = after_all (after farm (Begin node ticket)) late in
+        answer later (Begin node' ticket') ≡ Ok outcome'
+        → MayBeAtOnce later.pool node node' ticket ticket'
+    pub also : AlsoHolds farm
 
 abbrev pub EveryScheduleHasAChronicle : Type 0
 EveryScheduleHasAChronicle = (sha : List ℕ → Digest) (limits : Limits) → IsFarm sha limits
