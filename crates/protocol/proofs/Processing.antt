@@ -879,6 +879,7 @@ pub all_can_be_lost : AllCanBeLost
 all_can_be_lost sha k size p = record {
   lines = λ q calls lines mem may part. (_, Coordinator_does lines (running_after (batch k calls (begin_batch q p.coordinator.disk))) (Works q calls lines mem may part), refl);
   node_lines = λ n c w lines number may ok part. (_, Node_does n lines w.node number (Acts size c w lines may ok part), refl);
+  greeting = λ n l number awake newer low. (_, Node_does n [] (has_life (p.nodes n.0) l.0) number (Begins_life l [] awake newer low (Leaves (hello n l) [] [] Ends_part)), refl);
   contents = λ n d number. (
     _,
     Node_does n [] (record (p.nodes n.0) { store = none; known = (p.nodes n.0).known }) number (Loses none (p.nodes n.0).known (λ e c h. none_some c h) (λ s j e h. h)),

@@ -404,6 +404,14 @@ module _ (sha : List ℕ → Digest) (limits : Limits) (size : ℕ) where
         → HasPart work.sends lines
         → CanBecome sha limits size processes
         (record processes { nodes = put node.0 work.node processes.nodes; written = processes.written ++ lines })
+    -- a node that begins a newer life isn't heard
+    pub greeting : (node : NodeId) (life : Life) → IsNumber size node → (processes.nodes node.0).spent ≡ false
+        → (processes.nodes node.0).life.0 < life.0 → life.0 ≤ limits.greatest
+        → CanBecome sha limits size processes
+        (record processes {
+          nodes = put node.0 (has_life (processes.nodes node.0) life.0) processes.nodes;
+          written = processes.written ++ [];
+        })
     -- a node loses any content that it stores, and any version that it knows
     pub contents : (node : NodeId) (digest : Digest) → IsNumber size node → (happened : Processes)
         × Happens sha limits size processes happened × ((happened.nodes node.0).store digest ≡ None)
