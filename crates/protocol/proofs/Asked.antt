@@ -6,7 +6,7 @@ use Rattle.std.specs.List.{list_any}
 use Rattle.std.specs.Prelude.{nat_lt}
 use Rattle.protocol.specs.Lists.{In}
 use Rattle.protocol.specs.Names.{leased_wants, Slot, NodeId, Life}
-use Rattle.protocol.specs.Machine.{Grant, Parked, Machine, Live, cleared}
+use Rattle.protocol.specs.Machine.{Grant, Parked, Machine, Live}
 use Rattle.farm_base.specs.declared.message.Request.TheVariants.{Acquire}
 use Rattle.farm_base.specs.declared.message.Why.{Why}
 use Rattle.farm_base.specs.declared.message.Why.TheVariants.{InstancesSpent, TicketsSpent}

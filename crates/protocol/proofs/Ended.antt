@@ -1,14 +1,14 @@
 -- A ticket that was given, and is neither live nor on a line, comes on none.
-use Rattle.std.proofs.Common.{◌≡◌, ℕ, ◌+◌, ◌<◌, ◌≤◌, List, [], ◌∷◌, ◌++◌, ◌⊎◌, Bool, true, false, if◌then◌else◌, Option, Some, None, refl, sym, ◌∙◌, ap, subst, inl, inr, arith}
+use Rattle.std.proofs.Common.{◌≡◌, ℕ, ◌<◌, ◌≤◌, List, [], ◌∷◌, ◌⊎◌, Option, Some, None, sym, ◌∙◌, subst, inl, inr, arith}
 use Rattle.protocol.specs.Lists.{In}
 use Rattle.protocol.specs.Names.{Slot, Ticket, Digest}
 use Rattle.protocol.specs.Machine.{Grant, LineVersion, Ending, Made, Granted, Pruned, ticket_of, Message, Machine, Live, version_at, added, line, line_of, Step, Grants, Ends, Prunes, Sees, Retires, Parks, Unparks, Raises, Steps, No_step, One_more}
 use Rattle.protocol.specs.World.{World, Move, Node_moves, Machine_moves, Machine_says, Fails, Recovers, Moves, Still, Then}
 use Rattle.protocol.proofs.Base.{cases_option, none_some, some_is, in_left, in_right}
 use Rattle.protocol.proofs.Lines.{line_source, added_ticket}
-use Rattle.protocol.proofs.Steps.{Later, later_trans, step_sound}
+use Rattle.protocol.proofs.Steps.{Later, step_sound}
 use Rattle.protocol.proofs.Invariant.{Inv}
-use Rattle.protocol.proofs.Worlds.{Whole, move_inv, moves_inv, step_inv}
+use Rattle.protocol.proofs.Worlds.{Whole, moves_inv, step_inv}
 
 -- what the second machine gave beside what the first did is above its last ticket
 abbrev pub GivesAbove : Machine → Machine → Type 0

@@ -1,21 +1,19 @@
 -- What an event leaves, and whom a message reaches.
-use Rattle.std.proofs.Common.{◌≡◌, ◌≢◌, ℕ, ◌+◌, ◌≤◌, List, [], ◌∷◌, ◌++◌, Bool, true, false, not, eqb, ◌&&◌, ◌||◌, ◌⊎◌, Option, Some, None, Result, Ok, Err, refl, sym, ◌∙◌, ap, subst, inl, inr, arith, append-nil}
+use Rattle.std.proofs.Common.{◌≡◌, ◌≢◌, ℕ, ◌+◌, ◌≤◌, List, [], ◌∷◌, Bool, true, false, not, eqb, ◌&&◌, ◌||◌, ◌⊎◌, Option, Some, None, Result, Ok, Err, refl, sym, ◌∙◌, ap, subst, inl, inr, arith}
 use Rattle.std.proofs.lemmas.Bool.{cases_Bool, eqb-true, ne_eqb}
 use Rattle.std.proofs.lemmas.Bool.Decides.{nat_tests}
 use Rattle.std.specs.Prelude.{nat_le, length, if◌then◌else◌}
 use Rattle.std.specs.List.{list_any}
-use Rattle.protocol.specs.Lists.{In, put, nth}
+use Rattle.protocol.specs.Lists.{In, nth}
 use Rattle.protocol.specs.Names.{NodeId, Life, Digest, digest_eq}
 use Rattle.protocol.specs.Machine.{GrantedSlot, Message, Said, ToCoord, Fetch, Fetches, Blob, Parked, cleared}
 use Rattle.farm_base.specs.declared.message.Message.TheVariants as to
 use Rattle.events.specs.declared.answer.CoordNote.{CoordNote}
 use Rattle.events.specs.declared.answer.CoordNote.TheVariants as coord_note
 use Rattle.events.specs.declared.answer.NodeNote.TheVariants as node_note
-use Rattle.events.specs.declared.answer.EventNote.{EventNote}
 use Rattle.events.specs.declared.answer.EventNote.TheVariants as note
 use Rattle.events.specs.declared.answer.CoordRefusal.{CoordRefusal}
 use Rattle.events.specs.declared.answer.CoordRefusal.TheVariants as coord
-use Rattle.events.specs.declared.answer.NodeRefusal.{NodeRefusal}
 use Rattle.events.specs.declared.answer.NodeRefusal.TheVariants as node_refusal
 use Rattle.events.specs.declared.answer.EventRefusal.{EventRefusal}
 use Rattle.events.specs.declared.answer.EventRefusal.TheVariants as refusal
@@ -24,14 +22,14 @@ use Rattle.events.specs.declared.answer.Kept.{Kept}
 use Rattle.events.specs.declared.answer.Kept.TheVariants.{Old, New}
 use Rattle.protocol.specs.Ledger.{Limits, Ledger, Lease, Work, Decision, Give, Deny, Wait, another, elsewhere, decision, gives, carried_out, tried, try_all, retried, is_older, is_home, is_at, sees, newer_life, begin_work, handled, withdrawn, retired, pruned, nudged}
 use Rattle.protocol.specs.Ledger as ledger
-use Rattle.protocol.specs.World.{Holding, Node, keep}
-use Rattle.protocol.specs.Nodes.{NodeAnswer, may_restart, is_base, is_stored, received, brought, unless_spent, fetched}
+use Rattle.protocol.specs.World.{Holding, Node}
+use Rattle.protocol.specs.Nodes.{NodeAnswer, may_restart, is_base}
 use Rattle.protocol.specs.Replay.{Event, Tenure, Deliver, Begin, Finish, Abort, Resend, Nudge, Withdraw, Prune, Retire, RestartNode, RestartCoordinator, Forge, Forget, FailSave, Farm, Turn, settled, coordinated, is_node, at, at_node, restarts, delivered, step, run, opening}
 use Rattle.protocol.specs.Replay as replay
 use Rattle.protocol.specs.Reasons.{IsThere}
 use Rattle.protocol.specs.Meaning.{Means, MessageMeans, Answered, IsBase}
 use Rattle.protocol.specs.Follows.{Agrees}
-use Rattle.protocol.specs.Rules.{RefusedLeaves, KeepsTheFarm, EveryEventKeepsTheFarm, AnswersBy, EveryMessageReaches, OnlyTheRetiredAreToldSo, EveryParkedAskIsHeldUp, TheOldHomeIsHeeded}
+use Rattle.protocol.specs.Rules.{KeepsTheFarm, EveryEventKeepsTheFarm, AnswersBy, EveryMessageReaches, OnlyTheRetiredAreToldSo, EveryParkedAskIsHeldUp, TheOldHomeIsHeeded}
 use Rattle.protocol.proofs.Base.{true_false, eqb_same, any_in, nth_in, digest_eq_same}
 use Rattle.protocol.proofs.Leases.{Core, core_of}
 use Rattle.protocol.proofs.Parking.{parked_held_up}

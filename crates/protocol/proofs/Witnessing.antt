@@ -1,18 +1,15 @@
 -- What the definitions reach.
-use Rattle.std.proofs.Common.{◌≡◌, ◌≢◌, ℕ, zero, suc, ◌+◌, ◌<◌, List, [], ◌∷◌, ◌⊎◌, Bool, true, false, not, ◌||◌, eqb, Option, Some, None, slice_get, Result, Ok, Err, refl, sym, ◌∙◌, ap, subst, inl, inr, arith}
+use Rattle.std.proofs.Common.{◌≡◌, ℕ, zero, suc, ◌<◌, List, [], ◌∷◌, ◌⊎◌, Bool, true, false, not, ◌||◌, eqb, Option, Some, None, Ok, Err, refl, sym, ◌∙◌, ap, subst, inl, inr, arith}
 use Rattle.std.proofs.lemmas.Bool.{cases_Bool, eqb-true}
-use Rattle.protocol.specs.Lists.{In, nth, set_nth}
+use Rattle.protocol.specs.Lists.{In, nth}
 use Rattle.protocol.specs.Names.{Slot, slot_eq, Mode, Shared, Private, is_private, is_shared, NodeId, Ticket, Digest, Want}
 use Rattle.protocol.specs.Machine.{Grant, LineVersion, Confirmed, Made, ticket_of}
 use Rattle.events.specs.declared.answer.NodeRefusal.{NodeRefusal}
-use Rattle.protocol.specs.Ledger.{Limits}
-use Rattle.protocol.specs.World.{Holding, Running, Node, learn, learn_versions}
-use Rattle.protocol.specs.Nodes.{Left, NodeWork, NodeAnswer, HeldGrant, guard, held, first, all_stored, beginning, begun}
+use Rattle.protocol.specs.World.{Holding, Running, learn, learn_versions}
+use Rattle.protocol.specs.Nodes.{NodeWork, NodeAnswer, HeldGrant, guard, held, first, all_stored, beginning}
 use Rattle.protocol.specs.Replay.{Event, Tenure, Deliver, Begin, Finish, Abort, Resend, Nudge, Withdraw, Prune, Retire, RestartNode, RestartCoordinator, Forge, Forget, FailSave, Farm, step}
 use Rattle.protocol.specs.Replay as replay
 use Rattle.protocol.specs.Meaning.{IsAsk, StopsAt}
-use Rattle.protocol.specs.Safe.{HoldsContent, Rising, Falling}
-use Rattle.protocol.specs.Chronicle.{GoesOn}
 use Rattle.protocol.specs.Processes.{Executes}
 use Rattle.protocol.specs.Witnesses.{RisingIsOfAnyTwo, FallingIsOfAnyTwo, PrivateAndSharedAreAlone, WhatIsWantedIsWantedUnder, EveryEndIsSeen, TheseCallsEndLeases, AnAcceptedBeginExecutes, Spares, WhatIsSparedGoesOn, WhatIsLearnedIsHeld}
 use Rattle.names.proofs.CompareLaws.{slot_exact, slot_eq-itself}

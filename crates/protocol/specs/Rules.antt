@@ -1,6 +1,6 @@
 -- What the rules are beside the headline: what no event changes, whom a message reaches, and what a parked ask waits for
 -- (docs/PROOFS.md, "What is accepted").
-use Rattle.std.specs.Prelude.{◌≡◌, ◌≢◌, ℕ, ◌+◌, ◌==◌, if◌then◌else◌, true, false, ◌⊎◌, None, Some, List, [], ◌∷◌, ◌++◌, length, Result, Ok, Err}
+use Rattle.std.specs.Prelude.{◌≡◌, ◌≢◌, ℕ, ◌+◌, ◌==◌, if◌then◌else◌, true, false, ◌⊎◌, None, Some, List, [], ◌∷◌, ◌++◌, length, Ok, Err}
 use Rattle.protocol.specs.Lists.{In, put, nth}
 use Rattle.protocol.specs.Names.{Private, NodeId, Life, Digest, Want}
 use Rattle.protocol.specs.Machine.{Message, Said, ToCoord, Fetch, Fetches, Blob, Parked, Machine, Leased}
