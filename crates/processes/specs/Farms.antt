@@ -135,7 +135,7 @@ AreTold texts key messages = (text sealed : List ℕ) (message : Message) → In
 abbrev pub IsTold : List ℕ → Farm → Type 0
 IsTold key farm = AreTold farm.texts key farm.processes.written
 
--- so they are processes of the protocol, of which all five clauses hold, and the texts say no other messages
+-- so they are processes of the protocol, of which all clauses of their law hold, and the texts say no other messages
 abbrev pub EveryFarmIsARun : Type 0
 EveryFarmIsARun = (key : List ℕ) (farm later : Farm) → IsTold key farm → Comes_to key farm later
     → Runs content_digest farm_limits NODES farm.processes later.processes × IsTold key later

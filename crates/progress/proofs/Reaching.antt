@@ -106,7 +106,7 @@ every_ask_can_be_answered opens farms safes means sha k is_farm size events are 
           (subst (λ (m : Life). In (acquire r.0.node m p.ask r.0.wants r.0.tenure) t.pool) l
           (subst (λ (m : Ask). In (acquire r.0.node r.0.life m r.0.wants r.0.tenure) t.pool) a asked)) in
           let own : In (acquire p.node p.life p.ask p.wants p.tenure) t.pool = subst (In (Said y)) (sym after.pool) (in_left (Said y) s.pool (map Told w.sends) (nth_in s.pool number (Said y) at)) in
-          let one : r.0.tenure ≡ p.tenure = ((means sha k is_farm size longer).one_ask p.node p.life p.ask r.0.wants p.wants r.0.tenure p.tenure named own).1 in
+          let one : r.0.tenure ≡ p.tenure = ((means sha k is_farm size longer).also.one_ask p.node p.life p.ask r.0.wants p.wants r.0.tenure p.tenure named own).1 in
           let all : AreEvents longer = λ e j. elim (in_append e events (Deliver number ∷ []) j) [ inl b ↦ are e b | inr b ↦ subst IsEvent (sym (in_one e (Deliver number) b)) tt ] in
           let f = every_parked_ask_can_be_freed opens farms sha k size longer all after.down after.armed r.0 i (one ∙ free) in (
             f.0,

@@ -454,69 +454,71 @@ module _ (sha : List ℕ → Digest) (k : Limits) (farm : IsFarm sha k) where
 
   headline : (u : World) → Moves sha (start sha) u → (s : Farm) → Shows sha u s → WorldFits k u → AllLast k s → Headline sha k s
   headline u moves s shows fits last = record {
-    greatest = λ n. last n.0;
-    instance = λ g x i j private.
-        (let made = (moves_inv sha (start sha) u (start_whole sha) moves).0.now.messages (Told (told.Granted g)) (subst (In (Told (told.Granted g))) (sym shows.pool) i) in
-        fits.now g made x j private);
     withdrawn = λ t o ok.
         (let n = step_next sha k farm u moves s shows (Withdraw t) in
         let a = accepted s.size u n.world (Withdraw t) (step sha k s (Withdraw t)).outcome o ok n.means in
         let g = a.carried.did.1 in
         out (Withdraw t) n.world n.moves n.shows t (inl (subst (λ (z : Ticket). n.world.machine.ending z.0 ≡ Some Withdrawn) g.2 (a.carried.ended.all g.0 Withdrawn g.1 (g.2, refl)))));
-    retired = λ j o ok g i at.
-        (let n = step_next sha k farm u moves s shows (Retire j) in
-        let a = accepted s.size u n.world (Retire j) (step sha k s (Retire j)).outcome o ok n.means in
-        let x = shows.now.live_made g i in
-        out (Retire j) n.world n.moves n.shows g.ticket (inl (named n.world.machine x.0 g Withdrawn x.2 (a.carried.ended.all x.0 Withdrawn x.1 (ap (λ (z : Lease). z.node) x.2 ∙ at, refl)))));
-    older = λ number y o here ok kept newer g i at lt.
-        (let n = step_next sha k farm u moves s shows (Deliver number) in
-        let a = accepted s.size u n.world (Deliver number) (step sha k s (Deliver number)).outcome o ok n.means in
-        let x = shows.now.live_made g i in
-        let c = said_told s number y o here ok in
-        let sent : nth u.pool number ≡ Some (Said y) = ap (λ (p : List Message). nth p number) shows.pool ∙ here in
-        let kept' : u.machine.gone y.node.0 ≡ false = sym (ap (λ (f : ℕ → Bool). f y.node.0) shows.now.gone) ∙ kept in
-        let newer' : u.machine.lives y.node.0 < y.life.0 = subst (λ (f : ℕ → ℕ). f y.node.0 < y.life.0) shows.now.lives newer in
-        let lt' : x.0.life.0 < y.life.0 = subst (λ (z : Lease). z.life.0 < y.life.0) (sym x.2) lt in
-        out (Deliver number) n.world n.moves n.shows g.ticket (inr (named n.world.machine x.0 g Died x.2
-        (a.carried.ended.all x.0 Died x.1 (c.0, y, c.1, sent, Of_older_life kept' newer' (ap (λ (z : Lease). z.node) x.2 ∙ at) lt')))));
-    alone = begun_alone u moves s shows;
     apart = begun_apart u moves s shows;
-    spent = λ n e. spent_down sha k s n e;
-    arms = λ kept. armed_now sha k s kept;
-    armed = λ e other. leaves_armed sha k s e other;
-    one_ask = λ n l a ws ws' t t' i j. one_ask sha u moves n l a ws ws' t t' (subst (In (acquire n l a ws t)) (sym shows.pool) i) (subst (In (acquire n l a ws' t')) (sym shows.pool) j);
-    wanted = λ g i.
-        (let inv = (moves_inv sha (start sha) u (start_whole sha) moves).0.now in
-        let r = inv.asked g (inv.messages (Told (told.Granted g)) (subst (In (Told (told.Granted g))) (sym shows.pool) i)) in
-        (r.0, subst (In (acquire g.node g.life g.ask r.0 (is_tenure g.kind))) shows.pool r.1, slots_wanted g r.0 r.2));
-    fenced = λ n l t i late x v j at.
-        (let r = run_next sha k farm late u moves s shows in
-        let all = moves_trans sha (start sha) u r.world moves r.moves in
-        let sent : In (Told (told.Fenced n l t)) r.world.pool = still_sent u r.world r.moves (Told (told.Fenced n l t)) (subst (In (Told (told.Fenced n l t))) (sym shows.pool) i) in
-        (every_run_is_safe sha r.world all).fenced n l t sent (x, v, subst (In v) (r.shows.now.lines x) j, at));
     rising = λ x. subst Rising (sym (shows.now.lines x)) ((every_run_is_safe sha u moves).rising x);
     grows = λ late x.
         (let r = run_next sha k farm late u moves s shows in
         let since = every_run_stays_safe sha u r.world moves r.moves in
         subst (λ l. IsFrontOf (s.ledger.line x) l) (sym (r.shows.now.lines x)) (subst (λ l. IsFrontOf l (line (sha []) r.world.machine x)) (sym (shows.now.lines x)) (since.lines x)));
-    answered = λ up e o ok x.
-        (let n = step_next sha k farm u moves s shows e in
-        let a = accepted s.size u n.world e (step sha k s e).outcome o ok n.means in
-        let same : Finds u e ≡ u.machine = found_up e (up_is sha k farm u moves s shows e up) in
-        n.shows.now.lines x ∙ a.carried.lines x ∙ ap (λ l. l ++ adds (sha []) u.pool e o.note x) (ap (λ m. line (sha []) m x) same ∙ sym (shows.now.lines x))
-        ∙ ap (λ p. s.ledger.line x ++ adds (sha []) p e o.note x) shows.pool ∙ ap (λ d. s.ledger.line x ++ adds d s.pool e o.note x) (sym farm.empty));
     contents = λ late n n' x number c c' held held'.
         (let r = run_next sha k farm late u moves s shows in
         let since = every_run_stays_safe sha u r.world moves r.moves in
         since.contents n n' x number c c' (subst (λ z. HoldsContent z x number c) (sym (shows.nodes n.0)) held) (subst (λ z. HoldsContent z x number c') (sym (r.shows.nodes n'.0)) held'));
-    restarted = λ up g i unsaved.
-        (let n = step_next sha k farm u moves s shows RestartCoordinator in
-        let ok = restart_ok s in
-        let a = accepted s.size u n.world RestartCoordinator (step sha k s RestartCoordinator).outcome ok.0 ok.1 n.means in
-        let x = shows.now.live_made g i in
-        let finds : Finds u RestartCoordinator ≡ u.machine = ap (recorded u.machine) (up_is sha k farm u moves s shows RestartCoordinator up) in
-        let live : Live (Finds u RestartCoordinator) x.0 = subst (λ m. Live m x.0) (sym finds) x.1 in
-        out RestartCoordinator n.world n.moves n.shows g.ticket (inl (named n.world.machine x.0 g Withdrawn x.2 (a.carried.ended.all x.0 Withdrawn live (unsaved_ends x.0 (ap is_saved x.2 ∙ unsaved))))));
+    also = record {
+      greatest = λ n. last n.0;
+      instance = λ g x i j private.
+          (let made = (moves_inv sha (start sha) u (start_whole sha) moves).0.now.messages (Told (told.Granted g)) (subst (In (Told (told.Granted g))) (sym shows.pool) i) in
+          fits.now g made x j private);
+      retired = λ j o ok g i at.
+          (let n = step_next sha k farm u moves s shows (Retire j) in
+          let a = accepted s.size u n.world (Retire j) (step sha k s (Retire j)).outcome o ok n.means in
+          let x = shows.now.live_made g i in
+          out (Retire j) n.world n.moves n.shows g.ticket (inl (named n.world.machine x.0 g Withdrawn x.2 (a.carried.ended.all x.0 Withdrawn x.1 (ap (λ (z : Lease). z.node) x.2 ∙ at, refl)))));
+      older = λ number y o here ok kept newer g i at lt.
+          (let n = step_next sha k farm u moves s shows (Deliver number) in
+          let a = accepted s.size u n.world (Deliver number) (step sha k s (Deliver number)).outcome o ok n.means in
+          let x = shows.now.live_made g i in
+          let c = said_told s number y o here ok in
+          let sent : nth u.pool number ≡ Some (Said y) = ap (λ (p : List Message). nth p number) shows.pool ∙ here in
+          let kept' : u.machine.gone y.node.0 ≡ false = sym (ap (λ (f : ℕ → Bool). f y.node.0) shows.now.gone) ∙ kept in
+          let newer' : u.machine.lives y.node.0 < y.life.0 = subst (λ (f : ℕ → ℕ). f y.node.0 < y.life.0) shows.now.lives newer in
+          let lt' : x.0.life.0 < y.life.0 = subst (λ (z : Lease). z.life.0 < y.life.0) (sym x.2) lt in
+          out (Deliver number) n.world n.moves n.shows g.ticket (inr (named n.world.machine x.0 g Died x.2
+          (a.carried.ended.all x.0 Died x.1 (c.0, y, c.1, sent, Of_older_life kept' newer' (ap (λ (z : Lease). z.node) x.2 ∙ at) lt')))));
+      alone = begun_alone u moves s shows;
+      spent = λ n e. spent_down sha k s n e;
+      arms = λ kept. armed_now sha k s kept;
+      armed = λ e other. leaves_armed sha k s e other;
+      one_ask = λ n l a ws ws' t t' i j. one_ask sha u moves n l a ws ws' t t' (subst (In (acquire n l a ws t)) (sym shows.pool) i) (subst (In (acquire n l a ws' t')) (sym shows.pool) j);
+      wanted = λ g i.
+          (let inv = (moves_inv sha (start sha) u (start_whole sha) moves).0.now in
+          let r = inv.asked g (inv.messages (Told (told.Granted g)) (subst (In (Told (told.Granted g))) (sym shows.pool) i)) in
+          (r.0, subst (In (acquire g.node g.life g.ask r.0 (is_tenure g.kind))) shows.pool r.1, slots_wanted g r.0 r.2));
+      fenced = λ n l t i late x v j at.
+          (let r = run_next sha k farm late u moves s shows in
+          let all = moves_trans sha (start sha) u r.world moves r.moves in
+          let sent : In (Told (told.Fenced n l t)) r.world.pool = still_sent u r.world r.moves (Told (told.Fenced n l t)) (subst (In (Told (told.Fenced n l t))) (sym shows.pool) i) in
+          (every_run_is_safe sha r.world all).fenced n l t sent (x, v, subst (In v) (r.shows.now.lines x) j, at));
+      answered = λ up e o ok x.
+          (let n = step_next sha k farm u moves s shows e in
+          let a = accepted s.size u n.world e (step sha k s e).outcome o ok n.means in
+          let same : Finds u e ≡ u.machine = found_up e (up_is sha k farm u moves s shows e up) in
+          n.shows.now.lines x ∙ a.carried.lines x ∙ ap (λ l. l ++ adds (sha []) u.pool e o.note x) (ap (λ m. line (sha []) m x) same ∙ sym (shows.now.lines x))
+          ∙ ap (λ p. s.ledger.line x ++ adds (sha []) p e o.note x) shows.pool ∙ ap (λ d. s.ledger.line x ++ adds d s.pool e o.note x) (sym farm.empty));
+      restarted = λ up g i unsaved.
+          (let n = step_next sha k farm u moves s shows RestartCoordinator in
+          let ok = restart_ok s in
+          let a = accepted s.size u n.world RestartCoordinator (step sha k s RestartCoordinator).outcome ok.0 ok.1 n.means in
+          let x = shows.now.live_made g i in
+          let finds : Finds u RestartCoordinator ≡ u.machine = ap (recorded u.machine) (up_is sha k farm u moves s shows RestartCoordinator up) in
+          let live : Live (Finds u RestartCoordinator) x.0 = subst (λ m. Live m x.0) (sym finds) x.1 in
+          out RestartCoordinator n.world n.moves n.shows g.ticket (inl (named n.world.machine x.0 g Withdrawn x.2 (a.carried.ended.all x.0 Withdrawn live (unsaved_ends x.0 (ap is_saved x.2 ∙ unsaved))))));
+    };
   }
     where
       found_up : (e : Event) → u.down ≡ None → Finds u e ≡ u.machine
@@ -545,7 +547,7 @@ every_schedule_means sha k farm size events = (let r = from_opening sha k farm s
 pub every_farm_is_saved : EveryFarmIsSaved
 every_farm_is_saved sha k farm size events =
     let r = from_opening sha k farm size events in
-    record { up = up_saved sha k farm r.world r.moves (run sha k events (opening sha size)) r.shows Nudge; either = (r.world, r.moves, r.shows.saved) }
+    record { up = up_saved sha k farm r.world r.moves (run sha k events (opening sha size)) r.shows Nudge; either = (r.world, r.moves, r.shows) }
 
 pub restart_reads_the_record : RestartReadsTheRecord
 unfolding step

@@ -35,9 +35,12 @@ pub mod Schedules
 mod RaidedFarms
 mod Touching
 mod Failing
+mod Keeping
 mod Chronicles
 mod Losing
+mod Ended
 mod Processing
+mod Witnessing
 mod RaidedProcesses
 pub mod Answering
 mod Asking

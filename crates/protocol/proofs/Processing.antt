@@ -9,7 +9,7 @@ use Rattle.farm_base.specs.declared.message.ToNode.TheVariants as to_node
 use Rattle.farm_base.specs.declared.message.FromCoord.TheVariants as told
 use Rattle.protocol.specs.Lists.{In, IsFrontOf, put, nth}
 use Rattle.protocol.specs.Names.{NodeId, Life, Ask, Ticket, Slot, Digest, Want}
-use Rattle.protocol.specs.Machine.{Grant, LineVersion, Fetch, Blob, Message, Said, Told, hello, acquire, HasPart, Ends_part, Keeps, Leaves}
+use Rattle.protocol.specs.Machine.{Grant, LineVersion, Machine, Fetch, Blob, Message, ToCoord, Said, Told, hello, acquire, HasPart, Ends_part, Keeps, Leaves}
 use Rattle.events.specs.declared.answer.CoordRefusal.{CoordRefusal}
 use Rattle.events.specs.declared.answer.EventRefusal.TheVariants as refusal
 use Rattle.events.specs.declared.answer.Outcome.{Outcome}
@@ -23,17 +23,18 @@ use Rattle.protocol.specs.Nodes.{Place, guard, fetched, NodeWork, NodeAnswer, as
 use Rattle.protocol.specs.Replay.{Farm, Turn, Event, Deliver, RestartCoordinator, RestartNode, Forge, FailSave, settled, settles, coordinated, delivered, is_node, at, at_node, node_does, moved, answered, restarts, receiver, step, run, opening}
 use Rattle.protocol.specs.Replay as replay
 use Rattle.protocol.specs.Lawful.{IsNumber}
-use Rattle.protocol.specs.Processes.{Coordinator, Processes, Call, Handle, Withdraw, Prune, Retire, Nudge, MayCome, AllMayCome, decided, Batch, begin_batch, taken, batch, CoordinatorDoes, Works, Fails, Is_killed, Starts, NodeCall, Receive, Ask_lease, Ask_tenure, Begin, Finish, Abort, Resend, Bring, Forget, MayReach, node_decided, NodeDoes, Acts, Begins_life, Loses, Is_spent, Happens, Coordinator_does, Node_does, Runs, Rests, Goes_on, first_processes, IsNodeOf, IsOfLeases, IsFarmOf, AreScheduled, ProcessesAreTheFarm, Executes, StaySafe, ProcessesStaySafe, running_after, killed_after, WithdrawnStaysOut, HasAsked, OnlyHonestAreAFarm, EveryFarmIsProcesses}
-use Rattle.protocol.specs.Safe.{InUse, HoldsContent}
-use Rattle.protocol.specs.Follows.{IsFarm, SafeAfter}
+use Rattle.protocol.specs.Processes.{Coordinator, Processes, Call, Handle, Withdraw, Prune, Retire, Nudge, MayCome, AllMayCome, decided, Batch, begin_batch, taken, batch, CoordinatorDoes, Works, Fails, Is_killed, Starts, NodeCall, Receive, Ask_lease, Ask_tenure, Begin, Finish, Abort, Resend, Bring, Forget, MayReach, node_decided, NodeDoes, Acts, Begins_life, Loses, Is_spent, Happens, Coordinator_does, Node_does, Runs, Rests, Goes_on, first_processes, IsNodeOf, IsOfLeases, IsFarmOf, AreScheduled, ProcessesAreTheFarm, Executes, StaySafe, ProcessesStaySafe, running_after, killed_after, WithdrawnStaysOut, CallEnds, EndedStaysOut, HasAsked, OnlyHonestAreAFarm, EveryFarmIsProcesses, AllCanBeLost}
+use Rattle.protocol.specs.Safe.{InUse, HoldsContent, Rising}
+use Rattle.protocol.specs.Follows.{IsFarm, SafeAfter, SavedAgrees, lease_from}
 use Rattle.protocol.specs.Chronicle.{StaysOut, Headline, IsSavedFarm, Covered}
 use Rattle.lists.proofs.Places.{cases_list}
 use Rattle.protocol.proofs.Invariant.{WasAsked}
 use Rattle.protocol.proofs.Worlds.{moves_inv, start_whole}
 use Rattle.protocol.proofs.Losing as losing
-use Rattle.protocol.proofs.Schedules.{from_opening, every_schedule_is_safe}
+use Rattle.protocol.proofs.Schedules.{from_opening, run_next, every_schedule_is_safe}
+use Rattle.protocol.proofs.Ended.{stays_over}
 use Rattle.protocol.proofs.Chronicles.{every_schedule_means, every_farm_is_saved, every_record_covers}
-use Rattle.protocol.proofs.Base.{nth_in, put_same, put_other, put_all, in_one, in_left, in_right, in_append, some_is, none_some}
+use Rattle.protocol.proofs.Base.{true_false, ticket_is, nth_in, put_same, put_other, put_all, in_one, in_left, in_right, in_append, some_is, none_some}
 
 -- ---- members, places and parts
 
@@ -512,6 +513,10 @@ module _ (sha : List ℕ → Digest) (k : Limits) (farm : IsFarm sha k) (size : 
   line_later : (s : Slot) → after.ledger.line s ≡ later.coordinator.disk.line s
   line_later s = ap (λ (d : Saved). d.line s) (sym ((subst (IsSavedFarm sha) whole (every_farm_is_saved sha k farm size (r.early ++ r.late))).up r.after.up) ∙ r.after.disk)
 
+  is_up : (d : Option Machine) → SavedAgrees (sha []) safe.world.pool d before → d ≡ None
+  is_up None saved = refl
+  is_up (Some m) saved = true_false before.down saved.0 r.before.up
+
   stay_safe : StaySafe sha p later
   stay_safe = record {
     contents = λ n n' s number c c' held held'.
@@ -521,11 +526,23 @@ module _ (sha : List ℕ → Digest) (k : Limits) (farm : IsFarm sha k) (size : 
         elim (cases_list c c') [ inl e ↦ inl e | inr ne ↦ inr (ne, a.same ∙ same ∙ sym b.same) ]);
     alone = λ n n' g g' ws ws' s x x' has has' alone. safe.safe.alone n n' g g' ws ws' s (in_use n g ws x) (in_use n' g' ws' x') has has' alone;
     at_home = λ n g wants v x i shared. (let home = safe.safe.at_home n g wants v (in_use n g wants x) i shared in (home.0, home.1, executes n home.0 home.1 home.2, home.3, home.4));
+    over = λ q t mem given none off s v i at.
+        (let up : safe.world.down ≡ None = is_up safe.world.down safe.shows.saved in
+        let is : before.ledger ≡ q = r.before.memory q mem in
+        let next = run_next sha k farm r.late safe.world safe.moves before safe.shows in
+        let machine = safe.world.machine in
+        let last : before.ledger.last ≡ machine.last = safe.shows.now.last in
+        let low : t.0 ≤ before.ledger.last = subst (λ (z : Ledger). t.0 ≤ z.last) (sym is) given in
+        stays_over sha safe.world next.world (moves_inv sha (start sha) safe.world (start_whole sha) safe.moves).0 up next.moves t (omega arith)
+        (λ g live same. none (lease_from g) (subst (λ (z : Ledger). In (lease_from g) z.live) is (safe.shows.now.live_kept g live)) (ticket_is g.ticket t same))
+        (λ x y j same. off x y (subst (λ (z : Ledger). In y (z.line x)) is (subst (In y) (sym (safe.shows.now.lines x)) j)) (ticket_is y.ticket t same))
+        s v (subst (In v) (sym (line_later s) ∙ next.shows.now.lines s) i) (ap (λ (z : Ticket). z.0) at));
+    rising = λ s. (let f = every_schedule_is_safe sha k farm size (r.early ++ r.late) in subst Rising (sym (f.shows.now.lines s) ∙ ap (λ (g : Farm). g.ledger.line s) whole ∙ line_later s) (f.safe.rising s));
     lines = λ s. subst (λ xs. IsFrontOf xs (later.coordinator.disk.line s)) (line_then s) (subst (λ xs. IsFrontOf (before.ledger.line s) xs) (line_later s) (means.grows r.late s));
     confirmed = λ n l t versions v i j.
         (let c = covers.versions n l t versions v (sent (Told (told.Committed n l t versions)) tt i) j in
         (c.0, c.1, subst (λ (d : Saved). slice_get (d.line v.slot) c.0 ≡ Some (record { ticket = t; digest = v.digest })) r.after.disk c.2));
-    fenced = λ n l t i s v j at. means.fenced n l t (r.before.written (Told (told.Fenced n l t)) tt i) r.late s v (subst (In v) (sym (line_later s)) j) at;
+    fenced = λ n l t i s v j at. means.also.fenced n l t (r.before.written (Told (told.Fenced n l t)) tt i) r.late s v (subst (In v) (sym (line_later s)) j) at;
     tickets = λ g i. subst (λ (d : Saved). g.ticket.0 ≤ d.ceiling) r.after.disk (covers.tickets g (sent (Told (told.Granted g)) tt i));
   }
 
@@ -551,6 +568,55 @@ module _ (sha : List ℕ → Digest) (k : Limits) (size : ℕ) where
       by true f = rw (e, f) (_, refl)
       by false f = rw (e, f) (_, refl)
 
+  -- a node of the farm
+  there : (n : NodeId) (b : Batch) (nodes : ℕ → Node) (pool : List Message) → IsNumber size n → is_node (up_farm b nodes pool) n ≡ true
+  there n b nodes pool number = rw (le_true 1 n.0 number.0, le_true n.0 size number.1) refl
+
+  settled_ok : (w : Work) (s : Farm) → s.armed ≡ None → (o : Outcome) × ((coordinated false (Ok w) s).outcome ≡ Ok o)
+  settled_ok w s armed = by w.changed refl
+    where
+      by : (c : Bool) → w.changed ≡ c → (o : Outcome) × ((coordinated false (Ok w) s).outcome ≡ Ok o)
+      by true f = rw (f, armed) (_, refl)
+      by false f = rw f (_, refl)
+
+  -- the farm's event for a call whose lease, or ticket, stays out from then on
+  record EndsIt (b : Batch) (w : Work) (t : Ticket) (nodes : ℕ → Node) (pool : List Message) : Type 0 where
+    pub event : Event
+    pub is : (step sha k (up_farm b nodes pool) event).farm ≡ (coordinated false (Ok w) (up_farm b nodes pool)).farm
+    pub out : StaysOut sha k (step sha k (up_farm b nodes pool) event).farm t
+
+  withdraw_ends : (b : Batch) (nodes : ℕ → Node) (pool : List Message) (t : Ticket) (w : Work) → withdrawn k t (begin_work b.ledger) ≡ Ok w → Headline sha k (up_farm b nodes pool) → EndsIt b w t nodes pool
+  withdraw_ends b nodes pool t w ok head = (let ws = withdraw_step b nodes pool t w ok in record { event = replay.Withdraw t; is = ws.0; out = head.withdrawn t ws.1.0 ws.1.1 })
+
+  retire_ends : (b : Batch) (nodes : ℕ → Node) (pool : List Message) (n : NodeId) (w : Work) (g : Lease) → IsNumber size n → retired k n (begin_work b.ledger) ≡ Ok w → In g b.ledger.live → g.node ≡ n → Headline sha k (up_farm b nodes pool) → EndsIt b w g.ticket nodes pool
+  unfolding step
+  retire_ends b nodes pool n w g number ok i at head =
+      let s : Farm = up_farm b nodes pool in
+      let here = there n b nodes pool number in
+      let did : step sha k s (replay.Retire n) ≡ coordinated false (Ok w) s = rw (here, ok) refl in
+      let o = settled_ok w s refl in
+      record { event = replay.Retire n; is = ap (λ (z : Turn). z.farm) did; out = head.also.retired n o.0 (ap (λ (z : Turn). z.outcome) did ∙ o.1) g i at }
+
+  handle_ends : (b : Batch) (nodes : ℕ → Node) (pool : List Message) (y : ToCoord) (w : Work) (g : Lease) → In (Said y) pool → ◌≡◌ {A = Result Work CoordRefusal} (Ok (handled k y (begin_work b.ledger))) (Ok w) → In g b.ledger.live
+      → b.ledger.gone y.node.0 ≡ false → b.ledger.lives y.node.0 < y.life.0 → g.node ≡ y.node → g.life.0 < y.life.0 → Headline sha k (up_farm b nodes pool) → EndsIt b w g.ticket nodes pool
+  unfolding step
+  handle_ends b nodes pool y w g sent ok i here newer at older head =
+      let s : Farm = up_farm b nodes pool in
+      let place = place_of (Said y) pool sent in
+      let found = place.1 in
+      let arrives : step sha k s (Deliver place.0) ≡ coordinated false (Ok (handled k y (begin_work b.ledger))) s = rw found refl in
+      let did : step sha k s (Deliver place.0) ≡ coordinated false (Ok w) s = arrives ∙ ap (λ r. coordinated false r s) ok in
+      let o = settled_ok w s refl in
+      record { event = Deliver place.0; is = ap (λ (z : Turn). z.farm) did; out = head.also.older place.0 y o.0 place.1 (ap (λ (z : Turn). z.outcome) did ∙ o.1) here newer g i at older }
+
+  call_ends : (written : List Message) (b : Batch) (nodes : ℕ → Node) (pool : List Message) (c : Call) (w : Work) (g : Lease) → MayCome size written c → Carries written pool → decided k b.ledger c ≡ Ok w → In g b.ledger.live → CallEnds b.ledger c g
+      → Headline sha k (up_farm b nodes pool) → EndsIt b w g.ticket nodes pool
+  call_ends written b nodes pool (Handle y) w g may carries ok i (here, newer, at, older) head = handle_ends b nodes pool y w g (carries (Said y) tt may) ok i here newer at older head
+  call_ends written b nodes pool (Withdraw t) w g may carries ok i at head = subst (λ z. EndsIt b w z nodes pool) (sym at) (withdraw_ends b nodes pool t w ok head)
+  call_ends written b nodes pool (Prune slot) w g may carries ok i none head = absurd none
+  call_ends written b nodes pool (Retire n) w g may carries ok i at head = retire_ends b nodes pool n w g may ok i at head
+  call_ends written b nodes pool Nudge w g may carries ok i none head = absurd none
+
   module _ (farm : IsFarm sha k) (p later : Processes) (runs : Runs sha k size (first_processes sha) p) (q : Ledger) (mem : p.coordinator.memory ≡ Some q) (early late : List Call) (t : Ticket) (w : Work) where
     abbrev first_batch : Batch
     first_batch = batch k early (begin_batch q p.coordinator.disk)
@@ -558,18 +624,22 @@ module _ (sha : List ℕ → Digest) (k : Limits) (size : ℕ) where
     abbrev next_batch : Batch
     next_batch = taken (Ok w) first_batch
 
-    stays_off : (lines : List Message) → AllMayCome size p.written early → AllMayCome size p.written late → withdrawn k t (begin_work first_batch.ledger) ≡ Ok w → HasPart (batch k late next_batch).sends lines
+    stays_off : (lines : List Message) → AllMayCome size p.written early → AllMayCome size p.written late
+        → ((nodes : ℕ → Node) (pool : List Message) → Carries p.written pool → Headline sha k (up_farm first_batch nodes pool) → EndsIt first_batch w t nodes pool)
+        → HasPart (batch k late next_batch).sends lines
         → Runs sha k size (record p { coordinator = running_after (batch k late next_batch); written = p.written ++ lines }) later
         → (s : Slot) (v : LineVersion) → In v (later.coordinator.disk.line s) → v.ticket ≡ t → ⊥
-    stays_off lines may may_late ok part more s v i at =
+    stays_off lines may may_late ends part more s v i at =
         let one = all_next sha k size (first_processes sha) (first_at sha k size) p runs in
         let a = one.0 in
         let r1 = batched sha k size p a q mem early may in
         let f1 : Farm = up_farm first_batch a.nodes r1.0.after in
         let d = decides sha k size a.nodes first_batch r1.0.after r1.0.sent (Ok w) in
-        let ws = withdraw_step first_batch a.nodes r1.0.after t w ok in
+        let l1 = leads_on sha k size (opening sha size) (farm_at sha k size p a) f1 one.1 r1.1 in
+        let means : Headline sha k f1 = subst (Headline sha k) l1.1 (every_schedule_means sha k farm size l1.0) in
+        let it : EndsIt first_batch w t a.nodes r1.0.after = ends a.nodes r1.0.after (λ m o i. r1.0.more m (a.written m o i)) means in
         let f2 : Farm = up_farm next_batch a.nodes d.0 in
-        let then_f2 : (step sha k f1 (replay.Withdraw t)).farm ≡ f2 = ws.0 ∙ d.1 in
+        let then_f2 : (step sha k f1 it.event).farm ≡ f2 = it.is ∙ d.1 in
         let r3 = reach sha k size a.nodes p.written late next_batch d.0 (λ m o i. d.2 m (r1.0.more m (a.written m o i))) d.3 may_late in
         let f3 : Farm = up_farm (batch k late next_batch) a.nodes r3.after in
         let next_at : At sha k size (record p { coordinator = running_after (batch k late next_batch); written = p.written ++ lines }) = record {
@@ -582,12 +652,10 @@ module _ (sha : List ℕ → Digest) (k : Limits) (size : ℕ) where
         } in
         let r4 = all_next sha k size (record p { coordinator = running_after (batch k late next_batch); written = p.written ++ lines }) next_at later more in
         let last : Farm = farm_at sha k size later r4.0 in
-        let l1 = leads_on sha k size (opening sha size) (farm_at sha k size p a) f1 one.1 r1.1 in
         let l4 = leads_on sha k size f2 f3 last r3.leads r4.1 in
-        let l2 : Leads sha k size f1 f2 = (replay.Withdraw t ∷ [], then_f2) in
+        let l2 : Leads sha k size f1 f2 = (it.event ∷ [], then_f2) in
         let all = leads_on sha k size (opening sha size) f2 last (leads_on sha k size (opening sha size) f1 f2 l1 l2) l4 in
-        let means : Headline sha k f1 = subst (Headline sha k) l1.1 (every_schedule_means sha k farm size l1.0) in
-        let out : StaysOut sha k f2 t = subst (λ f. StaysOut sha k f t) then_f2 (means.withdrawn t ws.1.0 ws.1.1) in
+        let out : StaysOut sha k f2 t = subst (λ f. StaysOut sha k f t) then_f2 it.out in
         let kept : IsSavedFarm sha last = subst (IsSavedFarm sha) all.1 (every_farm_is_saved sha k farm size all.0) in
         let same : later.coordinator.disk.line s ≡ last.ledger.line s = ap (λ (d : Saved). d.line s) (kept.up refl) in
         out.off_line l4.0 s v (subst (λ (f : Farm). In v (f.ledger.line s)) (sym l4.1) (subst (In v) same i)) at
@@ -599,7 +667,19 @@ withdrawn_stays_out sha k farm size p later runs q early late t w lines mem may 
     stays_off sha k size farm p later runs q mem early late t w lines
     (λ x i. may x (in_left x early (Withdraw t ∷ late) i))
     (λ x i. may x (in_right x early (Withdraw t ∷ late) (inr i)))
-    ok (subst (λ (z : Batch). HasPart z.sends lines) done part)
+    (λ nodes pool carries means. withdraw_ends sha k size b nodes pool t w ok means)
+    (subst (λ (z : Batch). HasPart z.sends lines) done part)
+    (subst (λ (z : Batch). Runs sha k size (record p { coordinator = running_after z; written = p.written ++ lines }) later) done more)
+
+pub ended_stays_out : EndedStaysOut
+ended_stays_out sha k farm size p later runs q early late c g w lines mem may ok i ends part more =
+    let b : Batch = batch k early (begin_batch q p.coordinator.disk) in
+    let done : batch k (early ++ c ∷ late) (begin_batch q p.coordinator.disk) ≡ batch k late (taken (Ok w) b) = batch_append k early (c ∷ late) (begin_batch q p.coordinator.disk) ∙ ap (λ r. batch k late (taken r b)) ok in
+    stays_off sha k size farm p later runs q mem early late g.ticket w lines
+    (λ x i. may x (in_left x early (c ∷ late) i))
+    (λ x i. may x (in_right x early (c ∷ late) (inr i)))
+    (λ nodes pool carries means. call_ends sha k size p.written b nodes pool c w g (may c (in_right c early (c ∷ late) (inl refl))) carries ok i ends means)
+    (subst (λ (z : Batch). HasPart z.sends lines) done part)
     (subst (λ (z : Batch). Runs sha k size (record p { coordinator = running_after z; written = p.written ++ lines }) later) done more)
 
 -- ---- what processes are the farm of no schedule
@@ -792,3 +872,28 @@ every_farm_is_processes sha k size events =
     let first : Processes = first_processes sha in
     let starts : Runs sha k size first (as_processes sha k (opening sha size)) = Goes_on first first (as_processes sha k (opening sha size)) (Rests first) (Coordinator_does [] (record { memory = Some ledger.opening; disk = saves ledger.opening }) Starts) in
     (as_processes sha k s, runs_on sha k size first (as_processes sha k (opening sha size)) (as_processes sha k s) starts (schedule_goes sha k events (opening sha size)), record { disk = refl; memory = λ up. rw up refl; nodes = refl; written = refl })
+
+-- ---- what can be lost
+
+pub all_can_be_lost : AllCanBeLost
+all_can_be_lost sha k size p = record {
+  lines = λ q calls lines mem may part. (_, Coordinator_does lines (running_after (batch k calls (begin_batch q p.coordinator.disk))) (Works q calls lines mem may part), refl);
+  node_lines = λ n c w lines number may ok part. (_, Node_does n lines w.node number (Acts size c w lines may ok part), refl);
+  greeting = λ n l number awake newer low. (_, Node_does n [] (has_life (p.nodes n.0) l.0) number (Begins_life l [] awake newer low (Leaves (hello n l) [] [] Ends_part)), refl);
+  contents = λ n d number. (
+    _,
+    Node_does n [] (record (p.nodes n.0) { store = none; known = (p.nodes n.0).known }) number (Loses none (p.nodes n.0).known (λ e c h. none_some c h) (λ s j e h. h)),
+    ap (λ (x : Node). x.store d) (put_same n.0 (record (p.nodes n.0) { store = none; known = (p.nodes n.0).known }) p.nodes),
+  );
+  versions = λ n s j number. (
+    _,
+    Node_does n [] (record (p.nodes n.0) { store = (p.nodes n.0).store; known = unknown }) number (Loses (p.nodes n.0).store unknown (λ e c h. h) (λ t i e h. none_some e h)),
+    ap (λ (x : Node). x.known s j) (put_same n.0 (record (p.nodes n.0) { store = (p.nodes n.0).store; known = unknown }) p.nodes),
+  );
+}
+  where
+    none : Digest → Option (List ℕ)
+    none d = None
+
+    unknown : Slot → ℕ → Option Digest
+    unknown s j = None

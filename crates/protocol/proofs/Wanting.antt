@@ -13,7 +13,8 @@ use Rattle.protocol.specs.Meaning.{takes_slot, instance_of, HasFreeSlot, AllTake
 use Rattle.protocol.proofs.Base.{node_is, life_is, ask_is, true_false, none_some, some_is, eqb_same, any_in, from_any, in_filter, from_filter, any_none, both_true}
 use Rattle.protocol.proofs.Leases.{Core, has_lease, lease_has, lowest-free, lowest-taken, lowest_is, free_is}
 use Rattle.protocol.proofs.Following.{pick_give}
-use Rattle.protocol.proofs.Parking.{picks}
+use Rattle.protocol.specs.Rules.{WaitsForSlot}
+use Rattle.protocol.proofs.Parking.{picks, HeldUp}
 
 -- an ask of these three names
 pub names_are : (n n' : NodeId) (l l' : Life) (a a' : Ask) → ((eqb n.0 n'.0) && (eqb l.0 l'.0) && (eqb a.0 a'.0)) ≡ true → (n ≡ n') × (l ≡ l') × (a ≡ a')
@@ -263,3 +264,20 @@ module _ (k : Limits) (m : Machine) (q : Ledger) (core : Core k.empty m q) where
       wait_picks (elsewhere q p) (all_taken k.instances (is_free q) ws) (busy (is_leased q) ws) (not (nat_lt q.last k.greatest))
       (none_taken ws (λ w i private. held.free w (leased_from p.tenure w p.wants i).0 private))
       (any_in (λ (w : Want). not (is_private w.folder.mode) && is_leased q (only_slot w.folder)) l.0 ws i (rw (other, on) refl))
+
+  away_from : (p : Parked) → elsewhere q p ≡ true → IsElsewhere m p
+  away_from p t = by q.old_home refl (and_parts p.tenure (another q.old_home p.node) t)
+    where
+      by : (o : Option NodeId) → q.old_home ≡ o → (p.tenure ≡ true) × (another o p.node ≡ true) → IsElsewhere m p
+      by None e (tenure, other) = (let bad : false ≡ true = other in cc)
+      by (Some h) e (tenure, other) = (tenure, (h, sym core.old_home ∙ e, λ same. true_false (eqb h.0 p.node.0) (subst (λ z. eqb h.0 z ≡ true) same (eqb_same h.0)) (not-true (eqb h.0 p.node.0) other)))
+
+  -- a parked ask waits for the old home or for a slot
+  pub held_up : (p : Parked) → HeldUp q p → IsElsewhere m p ⊎ WaitsForSlot m p
+  held_up p h = elim (cases_Bool (elsewhere q p)) [
+    | inl t ↦ inl (away_from p t)
+    | inr n ↦ (let r = from_any (λ (w : Want). not (is_private w.folder.mode) && is_leased q (only_slot w.folder)) (leased_wants p.tenure p.wants) (rw n at h) in
+        let b = and_parts (not (is_private r.0.folder.mode)) (is_leased q (only_slot r.0.folder)) r.2 in
+        let w = leased_from p.tenure r.0 p.wants r.1 in
+        inr (r.0, w.0, w.1, private_is r.0.folder.mode (not-true (is_private r.0.folder.mode) b.0), leased_is (only_slot r.0.folder) b.1))
+  ]

@@ -23,7 +23,7 @@ use Rattle.protocol.specs.Safe.{HoldsContent, Rising, Safe, SafeSince}
 use Rattle.protocol.specs.Replay.{Event, Deliver, Begin, Withdraw, Retire, RestartNode, RestartCoordinator, FailSave, Farm, Turn, step, run, opening, scheduled}
 use Rattle.protocol.specs.Meaning.{adds, StopsAt, IsElsewhere, AreFree, AllTaken, CouldBeGranted, IsHeldUp, IsOf, Means}
 use Rattle.protocol.specs.Reasons.{decision_at, Fair}
-use Rattle.protocol.specs.Follows.{IsFarm, SavedAgrees, Shows, NoneReady, after_life, MayBeGranted}
+use Rattle.protocol.specs.Follows.{IsFarm, Shows, NoneReady, after_life, MayBeGranted}
 
 -- the grants of two tickets, as they were sent, share no slot of a PRIVATE or SHARED folder
 abbrev pub NoneShared : List Message → Ticket → Ticket → Type 0
@@ -112,7 +112,7 @@ module _ (limits : Limits) where
     pub failed : turn.outcome ≡ Err (refusal.Coord coord_refusal.SaveFault) → IsFailed farm event turn.farm
     pub stays : turn.outcome ≢ Err (refusal.Coord coord_refusal.SaveFault) → turn.farm.armed ≡ farm.armed
 
-  -- how an ask is answered, of the machine before
+  -- how an ask of the greatest life, or of a newer one that ends nothing, is answered, of the machine before
   pub record AsksAreAnswered (machine : Machine) (asked : Parked) (answer : CoordNote) : Type 0 where
     -- one that is leased is granted again
     pub before : machine.lives asked.node.0 ≡ asked.life.0 → (grant : Grant) → Live machine grant
@@ -122,19 +122,23 @@ module _ (limits : Limits) where
     pub granted : EndsNothing machine asked.node asked.life
         → ((grant : Grant) → Live machine grant → IsOf asked.node asked.life asked.ask grant → ⊥)
         → CouldBeGranted limits machine asked → (grant : Grant) × (answer ≡ coord.Granted grant)
+    -- and no other
+    pub could : EndsNothing machine asked.node asked.life
+        → ((grant : Grant) → Live machine grant → IsOf asked.node asked.life asked.ask grant → ⊥)
+        → (grant : Grant) → answer ≡ coord.Granted grant → CouldBeGranted limits machine asked
     -- one that must wait for another node waits
-    pub elsewhere : machine.lives asked.node.0 ≡ asked.life.0
+    pub elsewhere : EndsNothing machine asked.node asked.life
         → ((grant : Grant) → Live machine grant → IsOf asked.node asked.life asked.ask grant → ⊥)
         → IsElsewhere machine asked → answer ≡ coord.Parked
     -- one that isn't parked and wants a PRIVATE folder with no instance left is denied
-    pub instances : machine.lives asked.node.0 ≡ asked.life.0 → IsNew machine asked → asked.tenure ≡ false
+    pub instances : EndsNothing machine asked.node asked.life → IsNew machine asked → asked.tenure ≡ false
         → (want : Want) → In want asked.wants → want.folder.mode ≡ Private
         → AllTaken limits.instances machine want.folder → answer ≡ coord.Denied why.InstancesSpent
     -- so is one whose slots are free where no ticket is left
-    pub tickets : machine.lives asked.node.0 ≡ asked.life.0 → IsNew machine asked → (IsElsewhere machine asked → ⊥)
+    pub tickets : EndsNothing machine asked.node asked.life → IsNew machine asked → (IsElsewhere machine asked → ⊥)
         → AreFree limits machine asked → limits.greatest ≤ machine.last → answer ≡ coord.Denied why.TicketsSpent
     -- one that is held up waits
-    pub parked : machine.lives asked.node.0 ≡ asked.life.0
+    pub parked : EndsNothing machine asked.node asked.life
         → ((grant : Grant) → Live machine grant → IsOf asked.node asked.life asked.ask grant → ⊥)
         → IsHeldUp limits machine asked → answer ≡ coord.Parked
 
@@ -196,13 +200,9 @@ module _ (sha : List ℕ → Digest) (limits : Limits) where
       ⊎ ((answer farm event ≡ Err (refusal.Coord coord_refusal.SaveFault))
       × NamesVersion (unarmed farm) event slot version)
 
-  -- of a farm that a schedule led to, and one more event
-  pub record Headline (farm : Farm) : Type 0 where
-    -- after an accepted withdrawal nothing commits under the ticket, and it is on no line
-    pub withdrawn : (ticket : Ticket) (outcome : Outcome)
-        → answer farm (Withdraw ticket) ≡ Ok outcome
-        → StaysOut (after farm (Withdraw ticket)) ticket
-    -- so for each lease of a node that is retired
+  -- of a farm that a schedule led to, and one more event: what holds beside the headline's promises
+  pub record AlsoHolds (farm : Farm) : Type 0 where
+    -- so it is for each lease of a node that is retired
     pub retired : (node : NodeId) (outcome : Outcome)
         → answer farm (Retire node) ≡ Ok outcome
         → (lease : Lease) → In lease farm.ledger.live → lease.node ≡ node
@@ -214,6 +214,19 @@ module _ (sha : List ℕ → Digest) (limits : Limits) where
         → farm.ledger.lives saying.node.0 < saying.life.0
         → (lease : Lease) → In lease farm.ledger.live → lease.node ≡ saying.node → lease.life.0 < saying.life.0
         → StaysOut (after farm (Deliver number)) lease.ticket
+    -- and for each lease that the record doesn't have, once a coordinator that was up restarts
+    pub restarted : farm.down ≡ false → (lease : Lease) → In lease farm.ledger.live → is_saved lease ≡ false
+        → StaysOut (after farm RestartCoordinator) lease.ticket
+    -- what was ever fenced is on no line
+    pub fenced : (node : NodeId) (life : Life) (ticket : Ticket) → In (Told (told.Fenced node life ticket)) farm.pool
+        → (late : List Event) (slot : Slot) (version : LineVersion)
+        → In version ((after_all farm late).ledger.line slot) → version.ticket ≡ ticket → ⊥
+    -- an accepted event makes a line longer by exactly what its answer names
+    pub answered : farm.down ≡ false → (event : Event) (outcome : Outcome)
+        → answer farm event ≡ Ok outcome
+        → (slot : Slot)
+        → (after farm event).ledger.line slot
+        ≡ farm.ledger.line slot ++ adds limits.empty farm.pool event outcome.note slot
     -- from an accepted begin on, until an event that ends it, none begins that shares a PRIVATE or SHARED slot with it
     pub alone : (node node' : NodeId) (ticket ticket' : Ticket) (late : List Event) (outcome outcome' : Outcome)
         → answer farm (Begin node ticket) ≡ Ok outcome
@@ -232,32 +245,6 @@ module _ (sha : List ℕ → Digest) (limits : Limits) where
     pub one_ask : (node : NodeId) (life : Life) (ask : Ask) (wants wants' : List Want) (tenure tenure' : Bool)
         → In (acquire node life ask wants tenure) farm.pool → In (acquire node life ask wants' tenure') farm.pool
         → (wants ≡ wants') × (tenure ≡ tenure')
-    -- from an accepted begin on, until an event that ends it, each that begins may be at once with it
-    pub apart : (node node' : NodeId) (ticket ticket' : Ticket) (late : List Event) (outcome outcome' : Outcome)
-        → answer farm (Begin node ticket) ≡ Ok outcome
-        → GoesOn node ticket late (after farm (Begin node ticket))
-        → let later : Farm = after_all (after farm (Begin node ticket)) late in
-        answer later (Begin node' ticket') ≡ Ok outcome'
-        → MayBeAtOnce later.pool node node' ticket ticket'
-    -- what was ever fenced is on no line
-    pub fenced : (node : NodeId) (life : Life) (ticket : Ticket) → In (Told (told.Fenced node life ticket)) farm.pool
-        → (late : List Event) (slot : Slot) (version : LineVersion)
-        → In version ((after_all farm late).ledger.line slot) → version.ticket ≡ ticket → ⊥
-    -- each folder's versions form one line that only grows, with rising tickets
-    pub rising : (slot : Slot) → Rising (farm.ledger.line slot)
-    pub grows : (late : List Event) (slot : Slot)
-        → IsFrontOf (farm.ledger.line slot) ((after_all farm late).ledger.line slot)
-    -- an accepted event makes a line longer by exactly what its answer names
-    pub answered : farm.down ≡ false → (event : Event) (outcome : Outcome)
-        → answer farm event ≡ Ok outcome
-        → (slot : Slot)
-        → (after farm event).ledger.line slot
-        ≡ farm.ledger.line slot ++ adds limits.empty farm.pool event outcome.note slot
-    -- two nodes hold one content for a version, then or later, or the two contents are a collision
-    pub contents : (late : List Event) (node node' : NodeId) (slot : Slot) (number : ℕ) (content content' : List ℕ)
-        → HoldsContent (farm.nodes node.0) slot number content
-        → HoldsContent ((after_all farm late).nodes node'.0) slot number content'
-        → (content ≡ content') ⊎ ((content ≢ content') × (sha content ≡ sha content'))
     -- a node whose last life is over is down for good
     pub spent : (node : NodeId)
         → answer farm (RestartNode node) ≡ Err (refusal.Node node_refusal.LivesSpent)
@@ -268,9 +255,32 @@ module _ (sha : List ℕ → Digest) (limits : Limits) where
     pub arms : (kept : Kept) → after farm (FailSave kept) ≡ record farm { armed = Some kept }
     pub armed : (event : Event) → ((kept : Kept) → event ≢ FailSave kept)
         → LeavesArmed limits farm event (step sha limits farm event)
-    -- and for each lease that the record doesn't have, once the coordinator restarts
-    pub restarted : farm.down ≡ false → (lease : Lease) → In lease farm.ledger.live → is_saved lease ≡ false
-        → StaysOut (after farm RestartCoordinator) lease.ticket
+
+  -- the headline's four promises: one content for a version, one line that only grows, nothing that was withdrawn counts,
+  -- and no PRIVATE instance is in use by two executions
+  pub record Headline (farm : Farm) : Type 0 where
+    -- two nodes hold one content for a version, then or later, or the two contents are a collision
+    pub contents : (late : List Event) (node node' : NodeId) (slot : Slot) (number : ℕ) (content content' : List ℕ)
+        → HoldsContent (farm.nodes node.0) slot number content
+        → HoldsContent ((after_all farm late).nodes node'.0) slot number content'
+        → (content ≡ content') ⊎ ((content ≢ content') × (sha content ≡ sha content'))
+    -- each slot's versions form one line that only grows, with rising tickets
+    pub rising : (slot : Slot) → Rising (farm.ledger.line slot)
+    pub grows : (late : List Event) (slot : Slot)
+        → IsFrontOf (farm.ledger.line slot) ((after_all farm late).ledger.line slot)
+    -- after an accepted withdrawal nothing commits under the ticket, and it is on no line
+    pub withdrawn : (ticket : Ticket) (outcome : Outcome)
+        → answer farm (Withdraw ticket) ≡ Ok outcome
+        → StaysOut (after farm (Withdraw ticket)) ticket
+    -- from an accepted begin on, until an event that ends it, each that begins may be at once with it: none has the same
+    -- instance of a PRIVATE folder
+    pub apart : (node node' : NodeId) (ticket ticket' : Ticket) (late : List Event) (outcome outcome' : Outcome)
+        → answer farm (Begin node ticket) ≡ Ok outcome
+        → GoesOn node ticket late (after farm (Begin node ticket))
+        → let later : Farm = after_all (after farm (Begin node ticket)) late in
+        answer later (Begin node' ticket') ≡ Ok outcome'
+        → MayBeAtOnce later.pool node node' ticket ticket'
+    pub also : AlsoHolds farm
 
 abbrev pub EveryScheduleHasAChronicle : Type 0
 EveryScheduleHasAChronicle = (sha : List ℕ → Digest) (limits : Limits) → IsFarm sha limits
@@ -339,7 +349,7 @@ EveryAskIsAnswered = (sha : List ℕ → Digest) (limits : Limits) → IsFarm sh
 -- machine that the save kept
 pub record IsSavedFarm (sha : List ℕ → Digest) (farm : Farm) : Type 0 where
   pub up : farm.down ≡ false → farm.saved ≡ saves farm.ledger
-  pub either : (world : World) × Moves sha (start sha) world × SavedAgrees (sha []) world.pool world.down farm
+  pub either : (world : World) × Moves sha (start sha) world × Shows sha world farm
 
 abbrev pub EveryFarmIsSaved : Type 0
 EveryFarmIsSaved = (sha : List ℕ → Digest) (limits : Limits) → IsFarm sha limits → (size : ℕ) (events : List Event)

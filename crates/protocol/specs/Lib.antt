@@ -11,7 +11,9 @@ pub mod Meaning
 pub mod Reasons
 pub mod Follows
 pub mod Chronicle
+pub mod Rules
 pub mod Lawful
 pub mod Hostile
 pub mod Processes
 pub mod HostileProcesses
+pub mod Witnesses

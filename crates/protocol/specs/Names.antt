@@ -27,7 +27,8 @@ is_private Shared = false
 is_private Private = true
 is_private Locked = false
 
--- a slot that two executions never share: of a PRIVATE or SHARED folder. The holder of a LOCKED slot whose lease was
+-- a slot that two executions never have at once: an instance of a PRIVATE folder, or the slot of a SHARED one, which its
+-- tenure has. The holder of a LOCKED slot whose lease was
 -- withdrawn may still run beside the next one; its ticket fences it
 abbrev pub is_alone : Slot → Bool
 is_alone s = is_private s.folder.mode || is_shared s.folder.mode

@@ -17,7 +17,7 @@ use Rattle.protocol.specs.Ledger as ledgers
 use Rattle.protocol.specs.World.{KeptAsk, Node, Running, has_life, first_node}
 use Rattle.protocol.specs.Nodes.{Place, Left, NodeWork, NodeAnswer, asked, asked_tenure, begun, finished_with, aborted, forgotten, resent, may_restart, received, brought, unless_spent}
 use Rattle.protocol.specs.Replay.{Farm, Event, run, scheduled, receiver}
-use Rattle.protocol.specs.Safe.{HoldsContent}
+use Rattle.protocol.specs.Safe.{HoldsContent, Rising}
 use Rattle.protocol.specs.Lawful.{IsNumber}
 use Rattle.protocol.specs.Follows.{IsFarm}
 
@@ -270,7 +270,17 @@ pub record StaySafe (sha : List ℕ → Digest) (processes later : Processes) : 
       → Executes (processes.nodes node.0) grant wants → In want wants → wants_shared want ≡ true
       → (holder : Grant) × (others : List Want) × Executes (processes.nodes node.0) holder others
       × (is_tenure holder.kind ≡ true) × Has holder (only_slot want.folder)
-  -- a line on the disk only grows
+  -- a ticket that was given, of which there is neither a lease nor a version, is on no line from then on, whatever late
+  -- Commit comes: so of each lease that a withdrawal, a retirement, a newer life or a restart has ended
+  pub over : (ledger : Ledger) (ticket : Ticket) → processes.coordinator.memory ≡ Some ledger
+      → ticket.0 ≤ ledger.last
+      → ((lease : Lease) → In lease ledger.live → lease.ticket ≢ ticket)
+      → ((slot : Slot) (version : LineVersion) → In version (ledger.line slot) → version.ticket ≢ ticket)
+      → (slot : Slot) (version : LineVersion) → In version (later.coordinator.disk.line slot)
+      → version.ticket ≢ ticket
+  -- tickets rise along a line on the disk
+  pub rising : (slot : Slot) → Rising (later.coordinator.disk.line slot)
+  -- and it only grows
   pub lines : (slot : Slot) → IsFrontOf (processes.coordinator.disk.line slot) (later.coordinator.disk.line slot)
   -- each version that a confirmation names, once that is written, stands there on the disk
   pub confirmed : (node : NodeId) (life : Life) (ticket : Ticket) (versions : List Confirmed) (version : Confirmed)
@@ -305,6 +315,30 @@ WithdrawnStaysOut = (sha : List ℕ → Digest) (limits : Limits) → IsFarm sha
     → Runs sha limits size (record processes { coordinator = running_after after; written = processes.written ++ lines }) later
     → (slot : Slot) (version : LineVersion) → In version (later.coordinator.disk.line slot) → version.ticket ≡ ticket
     → ⊥
+
+-- how a call ends a lease without a version of it: it withdraws it, retires its node, or is of a newer life of that node
+abbrev pub CallEnds : Ledger → Call → Lease → Type 0
+CallEnds ledger (Handle saying) lease = (ledger.gone saying.node.0 ≡ false)
+    × (ledger.lives saying.node.0 < saying.life.0) × (lease.node ≡ saying.node) × (lease.life.0 < saying.life.0)
+CallEnds ledger (Withdraw ticket) lease = lease.ticket ≡ ticket
+CallEnds ledger (Prune slot) lease = ⊥
+CallEnds ledger (Retire node) lease = lease.node ≡ node
+CallEnds ledger Nudge lease = ⊥
+
+-- so it is of each lease that an accepted call, among others, ended in one of these ways
+abbrev pub EndedStaysOut : Type 0
+EndedStaysOut = (sha : List ℕ → Digest) (limits : Limits) → IsFarm sha limits
+    → (size : ℕ) (processes later : Processes) → Runs sha limits size (first_processes sha) processes
+    → (ledger : Ledger) (early late : List Call) (call : Call) (lease : Lease) (work : Work) (lines : List Message)
+    → processes.coordinator.memory ≡ Some ledger →
+    let before : Batch = batch limits early (begin_batch ledger processes.coordinator.disk) in
+    let after : Batch = batch limits (early ++ call ∷ late) (begin_batch ledger processes.coordinator.disk) in
+    AllMayCome size processes.written (early ++ call ∷ late)
+    → decided limits before.ledger call ≡ Ok work → In lease before.ledger.live → CallEnds before.ledger call lease
+    → HasPart after.sends lines
+    → Runs sha limits size (record processes { coordinator = running_after after; written = processes.written ++ lines }) later
+    → (slot : Slot) (version : LineVersion) → In version (later.coordinator.disk.line slot)
+    → version.ticket ≡ lease.ticket → ⊥
 
 -- ---- and it is so of no others
 
@@ -345,3 +379,45 @@ abbrev pub EveryFarmIsProcesses : Type 0
 EveryFarmIsProcesses = (sha : List ℕ → Digest) (limits : Limits) (size : ℕ) (events : List Event)
     → (processes : Processes) × Runs sha limits size (first_processes sha) processes
     × ProcessesOf (scheduled sha limits size events) processes
+
+-- ---- and what can be lost is
+
+-- the processes later are these
+abbrev pub CanBecome : (List ℕ → Digest) → Limits → ℕ → Processes → Processes → Type 0
+CanBecome sha limits size processes later =
+    (happened : Processes) × Happens sha limits size processes happened × (happened ≡ later)
+
+module _ (sha : List ℕ → Digest) (limits : Limits) (size : ℕ) where
+  -- whatever the processes, each of these losses may be what happens next
+  pub record CanLose (processes : Processes) : Type 0 where
+    -- of the lines of the coordinator's calls any part is all that reaches the network
+    pub lines : (ledger : Ledger) (calls : List Call) (lines : List Message) →
+        let after : Batch = batch limits calls (begin_batch ledger processes.coordinator.disk) in
+        processes.coordinator.memory ≡ Some ledger → AllMayCome size processes.written calls
+        → HasPart after.sends lines
+        → CanBecome sha limits size processes
+        (record processes { coordinator = running_after after; written = processes.written ++ lines })
+    -- so it is of a node's accepted call
+    pub node_lines : (node : NodeId) (call : NodeCall) (work : NodeWork) (lines : List Message) → IsNumber size node
+        → MayReach processes.written node call
+        → node_decided sha limits (record { node = node; nodes = size }) (processes.nodes node.0) call ≡ Ok work
+        → HasPart work.sends lines
+        → CanBecome sha limits size processes
+        (record processes { nodes = put node.0 work.node processes.nodes; written = processes.written ++ lines })
+    -- a node that begins a newer life isn't heard
+    pub greeting : (node : NodeId) (life : Life) → IsNumber size node → (processes.nodes node.0).spent ≡ false
+        → (processes.nodes node.0).life.0 < life.0 → life.0 ≤ limits.greatest
+        → CanBecome sha limits size processes
+        (record processes {
+          nodes = put node.0 (has_life (processes.nodes node.0) life.0) processes.nodes;
+          written = processes.written ++ [];
+        })
+    -- a node loses any content that it stores, and any version that it knows
+    pub contents : (node : NodeId) (digest : Digest) → IsNumber size node → (happened : Processes)
+        × Happens sha limits size processes happened × ((happened.nodes node.0).store digest ≡ None)
+    pub versions : (node : NodeId) (slot : Slot) (number : ℕ) → IsNumber size node → (happened : Processes)
+        × Happens sha limits size processes happened × ((happened.nodes node.0).known slot number ≡ None)
+
+abbrev pub AllCanBeLost : Type 0
+AllCanBeLost = (sha : List ℕ → Digest) (limits : Limits) (size : ℕ) (processes : Processes)
+    → CanLose sha limits size processes

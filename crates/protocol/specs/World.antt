@@ -261,7 +261,7 @@ module _ (sha : List ℕ → Digest) where
         → (world.down ≡ None)
         → Says (sha []) world.pool world.machine telling
         → Move world (record world { pool = world.pool ++ Told telling ∷ [] })
-    -- a save fails: the record holds none of the event's steps, or all
+    -- a save fails: the record holds the machine as it was, or as some steps made it
     Fails : (machine : Machine)
         → (world.down ≡ None)
         → Steps (sha []) world.pool world.machine machine

@@ -2,9 +2,11 @@
 ghost use Rattle.protocol.specs.Follows.{EveryScheduleIsSafe, EveryScheduleStaysSafe, EveryEventIsMoves, EveryDecisionFollows, FittingAskIsGranted};
 ghost use Rattle.protocol.specs.Chronicle.{EveryScheduleHasAChronicle, EveryScheduleMeans, EveryVersionIsAnswered, NoParkedAskIsReady, FittingMessageIsGranted, NoParkedAskCouldBeGranted, EveryAskIsAnswered, EveryFarmIsSaved, EveryRecordCovers, RestartReadsTheRecord};
 ghost use Rattle.protocol.specs.Lawful.{EveryLedgerStaysLawful, EveryFarmStaysLawful, EveryOpeningIsLawful};
-ghost use Rattle.protocol.specs.Processes.{EveryFarmIsProcesses, OnlyHonestAreAFarm, ProcessesAreTheFarm, ProcessesStaySafe, WithdrawnStaysOut};
+ghost use Rattle.protocol.specs.Processes.{AllCanBeLost, EveryFarmIsProcesses, EndedStaysOut, OnlyHonestAreAFarm, ProcessesAreTheFarm, ProcessesStaySafe, WithdrawnStaysOut};
 ghost use Rattle.protocol.specs.Hostile.{EveryRaidIsSafe, EveryRaidStaysSafe, EveryRaidedDecisionFollows, EveryMessageTouchesItsOwn, EveryNodeCanBePutOut};
 ghost use Rattle.protocol.specs.HostileProcesses.{RaidedProcessesAreAFarm, RaidedProcessesStaySafe, RaidedWithdrawnStaysOut};
+ghost use Rattle.protocol.specs.Rules.{EveryEventKeepsTheFarm, EveryMessageReaches, OnlyTheRetiredAreToldSo, EveryParkedAskIsHeldUp, TheOldHomeIsHeeded};
+ghost use Rattle.protocol.specs.Witnesses.{RisingIsOfAnyTwo, FallingIsOfAnyTwo, PrivateAndSharedAreAlone, AnAcceptedBeginExecutes, WhatIsSparedGoesOn, WhatIsWantedIsWantedUnder, EveryEndIsSeen, TheseCallsEndLeases, WhatIsLearnedIsHeld};
 ghost use Rattle.protocol.specs.Safe.{EveryRunIsSafe, EveryRunStaysSafe};
 
 /// Every run of the world is safe, and stays so from any world to any later one: whatever is sent, lost,
@@ -67,6 +69,30 @@ pub fn every_ask_is_answered()
     ensures answered { EveryAskIsAnswered }
 {}
 
+/// A parked ask waits for a leased slot, or for another node that is the old home, and for nothing else.
+pub fn every_parked_ask_is_held_up()
+    ensures { EveryParkedAskIsHeldUp }
+{}
+
+/// On any ledger that has an old home: other nodes' asks for a tenure wait for it, it can't be retired, and its newer
+/// life ends that.
+pub fn the_old_home_is_heeded()
+    ensures { TheOldHomeIsHeeded }
+{}
+
+/// No event changes how many nodes a farm has, and a refused one changes nothing, but where a save failed or a node's
+/// greatest life was over.
+pub fn every_event_keeps_the_farm()
+    ensures { EveryEventKeepsTheFarm }
+{}
+
+/// A message reaches the node that it names: who is asked for a content sends it to who asked. Exactly the messages of
+/// retired nodes are answered NodeRetired, and do nothing.
+pub fn every_message_reaches_whom_it_names()
+    ensures reaches { EveryMessageReaches }
+    ensures retired { OnlyTheRetiredAreToldSo }
+{}
+
 /// While the coordinator is up the record is what the ledger saves, and after a failed save what a ledger of the machine
 /// that it kept saves. It covers all that was sent, and is all that a restart reads.
 pub fn every_record_is_enough()
@@ -96,8 +122,10 @@ pub fn processes_are_the_farm()
     ensures farm { ProcessesAreTheFarm }
     ensures safe { ProcessesStaySafe }
     ensures withdrawn { WithdrawnStaysOut }
+    ensures ended { EndedStaysOut }
     ensures honest { OnlyHonestAreAFarm }
     ensures all { EveryFarmIsProcesses }
+    ensures losses { AllCanBeLost }
 {}
 
 /// Some nodes were taken over, and whoever did so writes any line under their keys, at any time, beside what the rules
@@ -124,4 +152,19 @@ pub fn raided_processes_are_a_raided_farm()
 pub fn a_message_touches_only_its_own()
     ensures touches { EveryMessageTouchesItsOwn }
     ensures out { EveryNodeCanBePutOut }
+{}
+
+/// What the words of the theorems reach, so that none of them speaks of less than it seems to: tickets that rise do so
+/// between any two places, an accepted begin is an execution, one goes on until it is finished, aborted or its node
+/// begins a new life, and a version that was learned and whose content is stored is held.
+pub fn the_words_reach_what_they_say()
+    ensures rising { RisingIsOfAnyTwo }
+    ensures falling { FallingIsOfAnyTwo }
+    ensures alone { PrivateAndSharedAreAlone }
+    ensures executes { AnAcceptedBeginExecutes }
+    ensures goes_on { WhatIsSparedGoesOn }
+    ensures wanted { WhatIsWantedIsWantedUnder }
+    ensures ends { EveryEndIsSeen }
+    ensures calls { TheseCallsEndLeases }
+    ensures held { WhatIsLearnedIsHeld }
 {}

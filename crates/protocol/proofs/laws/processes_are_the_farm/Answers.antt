@@ -15,3 +15,9 @@ returns-clause-honest c = lemmas.only_honest_are_a_farm
 
 pub returns-clause-all : goal.returns-clause-all
 returns-clause-all c = lemmas.every_farm_is_processes
+
+pub returns-clause-losses : goal.returns-clause-losses
+returns-clause-losses c = lemmas.all_can_be_lost
+
+pub returns-clause-ended : goal.returns-clause-ended
+returns-clause-ended c = lemmas.ended_stays_out
