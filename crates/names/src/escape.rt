@@ -1,3 +1,4 @@
+//! How the bytes of a name are spelled, for the texts of the layers above too.
 ghost use Rattle.std.specs.Prelude.{◌≡◌, ◌≢◌, ℕ, ◌<◌, List, ◌++◌, IfOk, IfSome, IfNone, OnOk, IsTrue};
 ghost use Rattle.std.specs.String.{string_bytes};
 ghost use Rattle.std.specs.Str.{IsUtf8};
@@ -10,7 +11,7 @@ use std::alloc::{AllocError, Global};
 
 /// Whether a byte of an id is written without an escape.
 #[tactic(auto, unfolding(crate::specs::Escapes::stands))]
-pub(crate) fn is_plain(byte: u8) -> bool
+pub fn is_plain(byte: u8) -> bool
     ensures value { result ≡ stands byte }
     ensures ascii { IsTrue result → byte < 128 }
 {
@@ -19,7 +20,7 @@ pub(crate) fn is_plain(byte: u8) -> bool
 
 /// A hexadecimal digit, upper case.
 #[tactic(auto, unfolding(crate::specs::Escapes::upper_digit))]
-fn digit(value: u8) -> u8
+pub fn digit(value: u8) -> u8
     requires { value < 16 }
     ensures value { result ≡ upper_digit value }
     ensures ascii { result < 128 }
@@ -90,7 +91,7 @@ pub(crate) fn push_id(text: &mut String, id: &str) -> Result<(), AllocError>
 }
 
 /// The bytes that a text spells.
-pub(crate) fn bytes_of(alloc: Global, text: &[u8]) -> Result<Vec<u8>, FolderRefusal>
+pub fn bytes_of(alloc: Global, text: &[u8]) -> Result<Vec<u8>, FolderRefusal>
     ensures spelled { IfOk result (λ bytes. text.now ≡ id_text bytes.items) }
     ensures bytes { IfOk result (λ bytes. IsBytes bytes.items) }
     ensures only { result ≡ Err FolderRefusal.BadFolder → (id : List ℕ) → IsBytes id → text.now ≢ id_text id }

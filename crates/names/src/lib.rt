@@ -5,7 +5,7 @@ mod content;
 mod copied;
 mod digest;
 mod display;
-mod escape;
+pub mod escape;
 mod folder;
 mod items;
 pub mod laws;
