@@ -3,4 +3,5 @@ pub mod Listings
 pub mod Merging
 pub mod Rows
 pub mod Texts
+pub mod Times
 pub mod Views

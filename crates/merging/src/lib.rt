@@ -8,14 +8,14 @@ mod listing;
 mod merging;
 mod refusal;
 mod row;
+mod rule;
 mod side;
-#[cfg(test)]
-mod tests;
 mod text;
 
 pub use listing::is_listing;
 pub use merging::{Merged, Picked, merge};
 pub use refusal::ListingRefusal;
 pub use row::Line;
+pub use rule::Rule;
 pub use side::Side;
 pub use text::{listing_text, read_listing};
