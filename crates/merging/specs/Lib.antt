@@ -1,3 +1,4 @@
+pub mod Answers
 pub mod Choices
 pub mod Listings
 pub mod Merging
