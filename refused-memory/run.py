@@ -48,6 +48,12 @@ ROWS = [
     ("farmd node --node 3 --nodes 2 --store nowhere --key key", 2),
     ("farmd coordinator --record nowhere --key nothing", 4),
 ]
+# The listings of a merge, written so too.
+LISTINGS = {
+    "base": "a d; a/b f 1; c f 1; ",
+    "mine": "a d; a/b f 2; a/e%20 f 2; c f 2; ",
+    "theirs": "a d; a/b f 3; d f 3; ",
+}
 # How many runs of a row may end as NoThread. That allocation has another number where a thread that runs already allocates too.
 NO_THREAD = 16
 
@@ -143,6 +149,14 @@ def worked(folder: str) -> list[tuple[str, int]]:
     return rows
 
 
+def merge(folder: str) -> tuple[str, int]:
+    """Writes the listings to files of the folder, and returns the row of their merge."""
+    for name, text in LISTINGS.items():
+        with open(f"{folder}/{name}.listing", "w", encoding="ascii") as file:
+            file.write(text.replace("; ", "\n"))
+    return "farmd merge base.listing mine.listing theirs.listing", 0
+
+
 def main() -> int:
     with tempfile.TemporaryDirectory(dir=PLACE) as room:
         library = f"{room}/refuse.so"
@@ -151,7 +165,7 @@ def main() -> int:
         preload = {**os.environ, "LD_PRELOAD": library}
         sound = [is_sound(row, status, preload) for row, status in ROWS]
         rows = worked(room)
-        sound += [is_sound(row, status, preload, room) for row, status in rows]
+        sound += [is_sound(row, status, preload, room) for row, status in [*rows, merge(room)]]
     return 0 if all(sound) and rows else 1
 
 

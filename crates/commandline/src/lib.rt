@@ -10,7 +10,7 @@ use clap::error::ErrorKind;
 use clap::{Arg, ArgAction, ArgMatches, Error};
 use names::{EVENTS, NODES};
 use opsproto::LIMIT;
-use processcommands::{Process, coordinator_command, node_command, with};
+use processcommands::{Process, coordinator_command, merge_command, node_command, with};
 use std::alloc::{AllocError, Global};
 
 /// What `run` is asked to do.
@@ -28,7 +28,7 @@ pub enum Request<'a> {
     Print(Command),
     /// Builds definitions on a farm, and prints their answers.
     Run(Order<'a>),
-    /// Is a process of a farm, and answers the lines of the standard input.
+    /// Is a process of a farm, and answers the lines of the standard input, or merges listings.
     Serve(Process<'a>),
 }
 
@@ -270,7 +270,8 @@ fn with_farms<'a>(
 ) -> Result<clap::Command<'a>, AllocError> {
     let program = with(program, run_command(alloc))?;
     let program = with(program, coordinator_command(alloc))?;
-    with(program, node_command(alloc))
+    let program = with(program, node_command(alloc))?;
+    with(program, merge_command(alloc))
 }
 
 fn explain_arg<'a>(alloc: Global) -> Arg<'a> {

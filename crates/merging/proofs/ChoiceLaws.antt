@@ -2,10 +2,12 @@
 use Rattle.std.proofs.Common.{◌≡◌, ℕ, ◌⊎◌, inl, inr, Bool, true, false, cond, not, ◌&&◌, List, Some, None, refl, sym, ap, ◌∙◌}
 use Rattle.std.proofs.lemmas.Bool.{cases_Bool}
 use Rattle.std.proofs.lemmas.Slice.Eq.{bytes_eq-Decides}
+use Rattle.merging.specs.declared.rule.Rule.{Rule}
+use Rattle.merging.specs.declared.rule.Rule.TheVariants.{Newer}
 use Rattle.merging.specs.declared.side.Side.{Side}
 use Rattle.merging.specs.declared.side.Side.TheVariants.{Mine, Theirs}
 use Rattle.merging.specs.Listings.{Place}
-use Rattle.merging.specs.Choices.{Three, of, same, chosen, is_contested}
+use Rattle.merging.specs.Choices.{Three, of, other, same, entry_cmp, newer, favoured, chosen, is_contested}
 
 pub same_true : (a b : Place) → same a b ≡ true → a ≡ b
 same_true None None h = refl
@@ -24,52 +26,52 @@ pub same_false : (a b : Place) → same a b ≡ false → a ≡ b → ⊥
 same_false a b h e = let t = same_of a b e in cc
 
 abbrev pick : Side → Bool → Bool → Bool → Side
-pick rule p q r = cond p Theirs (cond q Mine (cond r Theirs rule))
+pick right p q r = cond p Theirs (cond q Mine (cond r Theirs right))
 
 abbrev contest : Bool → Bool → Bool → Bool
 contest p q r = not p && (not q && not r)
 
 -- why a side is chosen
-pub data Cases (rule : Side) (x : Three) : Type 0 where
+pub data Cases (rule : Rule) (x : Three) : Type 0 where
   untouched : x.mine ≡ x.base → chosen rule x ≡ Theirs → Cases rule x
   alone : (x.mine ≡ x.base → ⊥) → x.theirs ≡ x.base → chosen rule x ≡ Mine → Cases rule x
   agreed : (x.mine ≡ x.base → ⊥) → (x.theirs ≡ x.base → ⊥) → x.mine ≡ x.theirs → chosen rule x ≡ Theirs → Cases rule x
-  contested : (x.mine ≡ x.base → ⊥) → (x.theirs ≡ x.base → ⊥) → (x.mine ≡ x.theirs → ⊥) → chosen rule x ≡ rule → is_contested x ≡ true → Cases rule x
+  contested : (x.mine ≡ x.base → ⊥) → (x.theirs ≡ x.base → ⊥) → (x.mine ≡ x.theirs → ⊥) → chosen rule x ≡ favoured rule x.mine x.theirs → is_contested x ≡ true → Cases rule x
 
-pub cases : (rule : Side) (x : Three) → Cases rule x
+pub cases : (rule : Rule) (x : Three) → Cases rule x
 cases rule x = by_tests (same x.mine x.base) (same x.theirs x.base) (same x.mine x.theirs) refl refl refl
   where
     by_tests : (p q r : Bool) → same x.mine x.base ≡ p → same x.theirs x.base ≡ q → same x.mine x.theirs ≡ r → Cases rule x
     by_tests true q r ep eq er = untouched (same_true x.mine x.base ep)
-        (ap (λ (v : Bool). pick rule v (same x.theirs x.base) (same x.mine x.theirs)) ep)
+        (ap (λ (v : Bool). pick (favoured rule x.mine x.theirs) v (same x.theirs x.base) (same x.mine x.theirs)) ep)
     by_tests false true r ep eq er = alone (same_false x.mine x.base ep) (same_true x.theirs x.base eq)
-        (ap (λ (v : Bool). pick rule v (same x.theirs x.base) (same x.mine x.theirs)) ep ∙ ap (λ (v : Bool). pick rule false v (same x.mine x.theirs)) eq)
+        (ap (λ (v : Bool). pick (favoured rule x.mine x.theirs) v (same x.theirs x.base) (same x.mine x.theirs)) ep ∙ ap (λ (v : Bool). pick (favoured rule x.mine x.theirs) false v (same x.mine x.theirs)) eq)
     by_tests false false true ep eq er = agreed (same_false x.mine x.base ep) (same_false x.theirs x.base eq) (same_true x.mine x.theirs er)
-        (ap (λ (v : Bool). pick rule v (same x.theirs x.base) (same x.mine x.theirs)) ep ∙ ap (λ (v : Bool). pick rule false v (same x.mine x.theirs)) eq
-        ∙ ap (λ (v : Bool). pick rule false false v) er)
+        (ap (λ (v : Bool). pick (favoured rule x.mine x.theirs) v (same x.theirs x.base) (same x.mine x.theirs)) ep ∙ ap (λ (v : Bool). pick (favoured rule x.mine x.theirs) false v (same x.mine x.theirs)) eq
+        ∙ ap (λ (v : Bool). pick (favoured rule x.mine x.theirs) false false v) er)
     by_tests false false false ep eq er = contested (same_false x.mine x.base ep) (same_false x.theirs x.base eq) (same_false x.mine x.theirs er)
-        (ap (λ (v : Bool). pick rule v (same x.theirs x.base) (same x.mine x.theirs)) ep ∙ ap (λ (v : Bool). pick rule false v (same x.mine x.theirs)) eq
-        ∙ ap (λ (v : Bool). pick rule false false v) er)
+        (ap (λ (v : Bool). pick (favoured rule x.mine x.theirs) v (same x.theirs x.base) (same x.mine x.theirs)) ep ∙ ap (λ (v : Bool). pick (favoured rule x.mine x.theirs) false v (same x.mine x.theirs)) eq
+        ∙ ap (λ (v : Bool). pick (favoured rule x.mine x.theirs) false false v) er)
         (ap (λ (v : Bool). contest v (same x.theirs x.base) (same x.mine x.theirs)) ep ∙ ap (λ (v : Bool). contest false v (same x.mine x.theirs)) eq
         ∙ ap (λ (v : Bool). contest false false v) er)
 
-abbrev pub taken : Side → Three → Place
+abbrev pub taken : Rule → Three → Place
 taken rule x = of (chosen rule x) x
 
 abbrev side_of : Three → Side → Place
 side_of x side = of side x
 
 -- what is contested is by the rule
-pub contested_side : (rule : Side) (x : Three) → is_contested x ≡ true → chosen rule x ≡ rule
+pub contested_side : (rule : Rule) (x : Three) → is_contested x ≡ true → chosen rule x ≡ favoured rule x.mine x.theirs
 contested_side rule x h = by_tests (same x.mine x.base) (same x.theirs x.base) (same x.mine x.theirs) h
   where
-    by_tests : (p q r : Bool) → contest p q r ≡ true → pick rule p q r ≡ rule
+    by_tests : (p q r : Bool) → contest p q r ≡ true → pick (favoured rule x.mine x.theirs) p q r ≡ favoured rule x.mine x.theirs
     by_tests true q r h = absurd (cc)
     by_tests false true r h = absurd (cc)
     by_tests false false true h = absurd (cc)
     by_tests false false false h = refl
 
-pub untouched_side : (rule : Side) (x : Three) → x.mine ≡ x.base → chosen rule x ≡ Theirs
+pub untouched_side : (rule : Rule) (x : Three) → x.mine ≡ x.base → chosen rule x ≡ Theirs
 untouched_side rule x h = elim (cases rule x) [
   | untouched is ch ↦ ch
   | alone ne is ch ↦ absurd (ne h)
@@ -77,7 +79,7 @@ untouched_side rule x h = elim (cases rule x) [
   | contested ne nt nm ch co ↦ absurd (ne h)
 ]
 
-pub untouched_takes_theirs : (rule : Side) (x : Three) → x.mine ≡ x.base → taken rule x ≡ x.theirs
+pub untouched_takes_theirs : (rule : Rule) (x : Three) → x.mine ≡ x.base → taken rule x ≡ x.theirs
 untouched_takes_theirs rule x h = elim (cases rule x) [
   | untouched is ch ↦ ap (side_of x) ch
   | alone ne is ch ↦ absurd (ne h)
@@ -85,7 +87,7 @@ untouched_takes_theirs rule x h = elim (cases rule x) [
   | contested ne nt nm ch co ↦ absurd (ne h)
 ]
 
-pub alone_takes_mine : (rule : Side) (x : Three) → x.theirs ≡ x.base → taken rule x ≡ x.mine
+pub alone_takes_mine : (rule : Rule) (x : Three) → x.theirs ≡ x.base → taken rule x ≡ x.mine
 alone_takes_mine rule x h = elim (cases rule x) [
   | untouched is ch ↦ ap (side_of x) ch ∙ h ∙ sym is
   | alone ne is ch ↦ ap (side_of x) ch
@@ -93,7 +95,7 @@ alone_takes_mine rule x h = elim (cases rule x) [
   | contested ne nt nm ch co ↦ absurd (nt h)
 ]
 
-pub agreed_takes_it : (rule : Side) (x : Three) → x.mine ≡ x.theirs → taken rule x ≡ x.theirs
+pub agreed_takes_it : (rule : Rule) (x : Three) → x.mine ≡ x.theirs → taken rule x ≡ x.theirs
 agreed_takes_it rule x h = elim (cases rule x) [
   | untouched is ch ↦ ap (side_of x) ch
   | alone ne is ch ↦ ap (side_of x) ch ∙ h
@@ -102,7 +104,7 @@ agreed_takes_it rule x h = elim (cases rule x) [
 ]
 
 -- what is not contested, and changed by mine, is mine
-pub changed_is_mine : (rule : Side) (x : Three) → is_contested x ≡ false → (x.mine ≡ x.base → ⊥) → taken rule x ≡ x.mine
+pub changed_is_mine : (rule : Rule) (x : Three) → is_contested x ≡ false → (x.mine ≡ x.base → ⊥) → taken rule x ≡ x.mine
 changed_is_mine rule x free h = elim (cases rule x) [
   | untouched is ch ↦ absurd (h is)
   | alone ne is ch ↦ ap (side_of x) ch
@@ -111,7 +113,7 @@ changed_is_mine rule x free h = elim (cases rule x) [
 ]
 
 -- unless it is contested, both changed it to the same
-pub both_changed : (rule : Side) (x : Three) → is_contested x ≡ false → (x.mine ≡ x.base → ⊥) → (x.theirs ≡ x.base → ⊥) → x.mine ≡ x.theirs
+pub both_changed : (rule : Rule) (x : Three) → is_contested x ≡ false → (x.mine ≡ x.base → ⊥) → (x.theirs ≡ x.base → ⊥) → x.mine ≡ x.theirs
 both_changed rule x free h k = elim (cases rule x) [
   | untouched is ch ↦ absurd (h is)
   | alone ne is ch ↦ absurd (k is)
@@ -123,7 +125,7 @@ pub cases_place : (a b : Place) → (a ≡ b) ⊎ (a ≡ b → ⊥)
 cases_place a b = elim (cases_Bool (same a b)) [ inl h ↦ inl (same_true a b h) | inr h ↦ inr (same_false a b h) ]
 
 -- changes of two commands on the same base, in either order
-pub either_order : (rule : Side) (base one two theirs : Place)
+pub either_order : (rule : Rule) (base one two theirs : Place)
     → is_contested (record { base = base; mine = one; theirs = theirs }) ≡ false
     → is_contested (record { base = base; mine = two; theirs = theirs }) ≡ false
     → is_contested (record { base = base; mine = one; theirs = taken rule (record { base = base; mine = two; theirs = theirs }) }) ≡ false

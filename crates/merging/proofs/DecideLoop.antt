@@ -2,6 +2,7 @@
 use Rattle.std.proofs.Common.{◌≡◌, ℕ, Bool, true, false, cond, List, [], ◌∷◌, ◌++◌, map, reverse, Option, Some, None, refl, sym, ap, ◌∙◌, append_assoc}
 use Rattle.std.proofs.lemmas.List.{append-nil, reverse-append}
 use mathlib.Core.List.{reverse_aux}
+use Rattle.merging.specs.declared.rule.Rule.{Rule}
 use Rattle.merging.specs.declared.side.Side.{Side}
 use Rattle.merging.specs.Choices.{Three, of, chosen, is_conflict}
 use Rattle.merging.specs.Listings.{Place}
@@ -11,14 +12,14 @@ abbrev pub Lines : Type 0
 Lines = List (List ℕ × (List ℕ × Side))
 
 -- what the rows behind those that are left were decided to, in reverse
-pub record IsDecided (rule : Side) (total rows : Side_by_side) (next : Option (List ℕ)) (lines : Lines) (conflicts : List (List ℕ)) : Type 0 where
+pub record IsDecided (rule : Rule) (total rows : Side_by_side) (next : Option (List ℕ)) (lines : Lines) (conflicts : List (List ℕ)) : Type 0 where
   pub done : Side_by_side
   pub parts : rows ++ done ≡ total
   pub next_is : next ≡ next_taken rule done
   pub lines_are : reverse lines ≡ lines_in rule done
   pub conflicts_are : reverse conflicts ≡ conflicts_in rule done
 
-pub begins : (rule : Side) (total : Side_by_side) → IsDecided rule total total None [] []
+pub begins : (rule : Rule) (total : Side_by_side) → IsDecided rule total total None [] []
 begins rule total = record { done = []; parts = append-nil total; next_is = refl; lines_are = refl; conflicts_are = refl }
 
 reverse_line : (path : List ℕ) (side : Side) (place : Place) → reverse (line_if path side place) ≡ line_if path side place
@@ -29,7 +30,7 @@ reverse_if : (b : Bool) (path : List ℕ) → reverse (let xs : List (List ℕ) 
 reverse_if true path = refl
 reverse_if false path = refl
 
-pub steps : (rule : Side) (total rows rows' : Side_by_side) (row : List ℕ × Three) (next next' : Option (List ℕ)) (lines lines' : Lines) (conflicts conflicts' : List (List ℕ))
+pub steps : (rule : Rule) (total rows rows' : Side_by_side) (row : List ℕ × Three) (next next' : Option (List ℕ)) (lines lines' : Lines) (conflicts conflicts' : List (List ℕ))
     → IsDecided rule total rows next lines conflicts → rows ≡ rows' ++ row ∷ [] → next' ≡ next_with rule row next
     → lines' ≡ lines ++ row_lines rule next row → conflicts' ≡ conflicts ++ row_conflicts rule next row
     → IsDecided rule total rows' next' lines' conflicts'
@@ -47,7 +48,7 @@ steps rule total rows rows' row next next' lines lines' conflicts conflicts' was
       ∙ ap (λ (n : Option (List ℕ)). row_conflicts rule n row ++ conflicts_in rule was.done) was.next_is;
 }
 
-pub ends : (rule : Side) (total rows : Side_by_side) (next : Option (List ℕ)) (lines : Lines) (conflicts : List (List ℕ)) → IsDecided rule total rows next lines conflicts → rows ≡ []
+pub ends : (rule : Rule) (total rows : Side_by_side) (next : Option (List ℕ)) (lines : Lines) (conflicts : List (List ℕ)) → IsDecided rule total rows next lines conflicts → rows ≡ []
     → (reverse lines ≡ lines_in rule total) × (reverse conflicts ≡ conflicts_in rule total)
 ends rule total rows next lines conflicts was none =
     let all : was.done ≡ total = ap (λ (z : Side_by_side). z ++ was.done) (sym none) ∙ was.parts in

@@ -3,6 +3,7 @@ pub mod DecideLoop
 pub mod LineLaws
 pub mod Lookups
 pub mod MergeLaws
+pub mod NewerLaws
 pub mod PathLaws
 pub mod Prefixes
 pub mod Rising

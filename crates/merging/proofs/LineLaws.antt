@@ -10,6 +10,7 @@ use Rattle.std.proofs.lemmas.Bool.Decides.{nat_tests}
 use Rattle.std.proofs.lemmas.Map.Lookups.{exact_bytes, exact_unsigned}
 use Rattle.lists.proofs.Places.{some_is}
 use Rattle.lists.proofs.Rising.{less-from_cmp}
+use Rattle.merging.specs.declared.rule.Rule.{Rule}
 use Rattle.merging.specs.declared.side.Side.{Side}
 use Rattle.merging.specs.declared.side.Side.TheVariants.{Mine, Theirs}
 use Rattle.merging.specs.Choices.{Three, of, chosen, settled, is_conflict}
@@ -77,7 +78,7 @@ between (a ∷ dir) (b ∷ mid) (c ∷ path) h up down =
 
 -- ---- the first path that is taken
 
-next_some : (rule : Side) (rows : Side_by_side) (p : List ℕ) → IsStrictlySortedBy path_cmp (keys_of rows) → next_taken rule rows ≡ Some p
+next_some : (rule : Rule) (rows : Side_by_side) (p : List ℕ) → IsStrictlySortedBy path_cmp (keys_of rows) → next_taken rule rows ≡ Some p
     → (stands (taken rule (three_in rows p)) ≡ true) × ((x : List ℕ) → Above x rows → path_cmp x p ≡ Less)
 unfolding IsStrictlySortedBy
 next_some rule [] p up e = absurd (cc)
@@ -99,7 +100,7 @@ next_some rule (row ∷ rows) p up e = by_test (stands (taken rule row.1)) refl 
         )
 
 -- a path that is taken is the first one or behind it
-next_found : (rule : Side) (rows : Side_by_side) (q : List ℕ) → IsStrictlySortedBy path_cmp (keys_of rows) → stands (taken rule (three_in rows q)) ≡ true
+next_found : (rule : Rule) (rows : Side_by_side) (q : List ℕ) → IsStrictlySortedBy path_cmp (keys_of rows) → stands (taken rule (three_in rows q)) ≡ true
     → (p : List ℕ) × (next_taken rule rows ≡ Some p) × ((p ≡ q) ⊎ (path_cmp p q ≡ Less))
 unfolding IsStrictlySortedBy
 next_found rule [] q up h = absurd (cc)
@@ -139,7 +140,7 @@ below_some : (dir : List ℕ) (next : Option (List ℕ)) → has_below dir next 
 below_some dir None h = absurd (cc)
 below_some dir (Some p) h = (p, refl, h)
 
-module _ (rule : Side) (base mine theirs : Listing) where
+module _ (rule : Rule) (base mine theirs : Listing) where
   abbrev X : List ℕ → Three
   X path = three_at base mine theirs path
 

@@ -5,9 +5,10 @@ use Rattle.std.specs.Map.{keys_of}
 use Rattle.std.proofs.lemmas.Bool.{cases_Bool}
 use Rattle.std.proofs.lemmas.Bool.Decides.{nat_tests}
 use Rattle.std.proofs.lemmas.List.Folds.{list_any-append}
+use Rattle.merging.specs.declared.rule.Rule.{Rule}
 use Rattle.merging.specs.declared.side.Side.{Side}
 use Rattle.merging.specs.declared.side.Side.TheVariants.{Mine, Theirs}
-use Rattle.merging.specs.Choices.{Three, of, other, chosen, is_contested, is_kept, settled}
+use Rattle.merging.specs.Choices.{Three, of, other, favoured, chosen, is_contested, is_kept, settled}
 use Rattle.merging.specs.Listings.{Listing, Place, entry_at, IsListing, stands, is_directory, is_below, IsTree}
 use Rattle.merging.specs.Merging.{three_at, chosen_at, flat_at, stands_below, side_at, merged_at, is_conflict_at, IsMerge, Stays}
 use Rattle.merging.proofs.ChoiceLaws.{untouched, alone, agreed, contested, cases, contested_side, untouched_side, untouched_takes_theirs, alone_takes_mine, taken, either_order}
@@ -92,7 +93,7 @@ any_listed test l k there h =
     let place = listed l k some.0 some.1 in
     ap (list_any test) place.2 ∙ any_in test place.0 k place.1 h
 
-module _ (rule : Side) (base mine theirs : Listing) where
+module _ (rule : Rule) (base mine theirs : Listing) where
   abbrev M : List ℕ → Place
   M path = merged_at rule base mine theirs path
 
@@ -210,7 +211,7 @@ module _ (rule : Side) (base mine theirs : Listing) where
 
 -- ---- nothing of one side alone is lost
 
-pub nothing_changed_by_mine : (rule : Side) (base theirs : Listing) → IsTree (λ path. entry_at theirs path) → (path : List ℕ) → merged_at rule base base theirs path ≡ entry_at theirs path
+pub nothing_changed_by_mine : (rule : Rule) (base theirs : Listing) → IsTree (λ path. entry_at theirs path) → (path : List ℕ) → merged_at rule base base theirs path ≡ entry_at theirs path
 nothing_changed_by_mine rule base theirs tree path = flat_tree rule base base theirs flat path ∙ same path
   where
     same : (path : List ℕ) → flat_at rule base base theirs path ≡ entry_at theirs path
@@ -219,7 +220,7 @@ nothing_changed_by_mine rule base theirs tree path = flat_tree rule base base th
     flat : IsTree (λ path. flat_at rule base base theirs path)
     flat dir path h there = ap is_directory (same dir) ∙ tree dir path h (ap stands (sym (same path)) ∙ there)
 
-pub nothing_changed_by_theirs : (rule : Side) (base mine : Listing) → IsTree (λ path. entry_at mine path) → (path : List ℕ) → merged_at rule base mine base path ≡ entry_at mine path
+pub nothing_changed_by_theirs : (rule : Rule) (base mine : Listing) → IsTree (λ path. entry_at mine path) → (path : List ℕ) → merged_at rule base mine base path ≡ entry_at mine path
 nothing_changed_by_theirs rule base mine tree path = flat_tree rule base mine base flat path ∙ same path
   where
     same : (path : List ℕ) → flat_at rule base mine base path ≡ entry_at mine path
@@ -230,7 +231,7 @@ nothing_changed_by_theirs rule base mine tree path = flat_tree rule base mine ba
 
 -- ---- two commands in either order
 
-pub orders_agree : (rule : Side) (base one two theirs with_one with_two : Listing)
+pub orders_agree : (rule : Rule) (base one two theirs with_one with_two : Listing)
     → IsMerge rule base one theirs with_one → IsMerge rule base two theirs with_two
     → ((path : List ℕ) → is_conflict_at rule base one theirs path ≡ false) → ((path : List ℕ) → is_conflict_at rule base two theirs path ≡ false)
     → ((path : List ℕ) → is_conflict_at rule base one with_two path ≡ false) → ((path : List ℕ) → is_conflict_at rule base two with_one path ≡ false)
@@ -261,12 +262,12 @@ any_side : (x : Three) (a : Place) → x.mine ≡ a → x.theirs ≡ a → (s : 
 any_side x a h k Mine = h
 any_side x a h k Theirs = k
 
-same_bool : (p q : Bool) → (p ≡ true → q ≡ true) → (q ≡ true → p ≡ true) → p ≡ q
+pub same_bool : (p q : Bool) → (p ≡ true → q ≡ true) → (q ≡ true → p ≡ true) → p ≡ q
 same_bool true q f g = sym (f refl)
 same_bool false true f g = g refl
 same_bool false false f g = refl
 
-module _ (rule : Side) (base mine theirs merged : Listing) (m : IsMerge rule base mine theirs merged) where
+module _ (rule : Rule) (base mine theirs merged : Listing) (m : IsMerge rule base mine theirs merged) where
   abbrev now : List ℕ → Three
   now path = three_at base mine theirs path
 
@@ -316,18 +317,18 @@ module _ (rule : Side) (base mine theirs merged : Listing) (m : IsMerge rule bas
 
 -- ---- the listing of a merge
 
-pub one_merge : (rule rule' : Side) (base mine theirs base' mine' theirs' merged merged' : Listing) → IsMerge rule base mine theirs merged → IsMerge rule' base' mine' theirs' merged'
+pub one_merge : (rule rule' : Rule) (base mine theirs base' mine' theirs' merged merged' : Listing) → IsMerge rule base mine theirs merged → IsMerge rule' base' mine' theirs' merged'
     → ((path : List ℕ) → merged_at rule base mine theirs path ≡ merged_at rule' base' mine' theirs' path) → merged ≡ merged'
 one_merge rule rule' base mine theirs base' mine' theirs' merged merged' m m' h = same_listing merged merged' m.rise m'.rise (λ path. m.each path ∙ h path ∙ sym (m'.each path))
 
-pub merge_is : (rule : Side) (base mine theirs merged other : Listing) → IsMerge rule base mine theirs merged → IsListing other
+pub merge_is : (rule : Rule) (base mine theirs merged other : Listing) → IsMerge rule base mine theirs merged → IsListing other
     → ((path : List ℕ) → merged_at rule base mine theirs path ≡ entry_at other path) → merged ≡ other
 merge_is rule base mine theirs merged other m rise h = same_listing merged other m.rise rise (λ path. m.each path ∙ h path)
 
-pub merge_again : (rule : Side) (base mine theirs merged again : Listing) → IsMerge rule base mine theirs merged → IsMerge rule base mine merged again → again ≡ merged
+pub merge_again : (rule : Rule) (base mine theirs merged again : Listing) → IsMerge rule base mine theirs merged → IsMerge rule base mine merged again → again ≡ merged
 merge_again rule base mine theirs merged again m m' = merge_is rule base mine merged again merged m' m.rise (λ path. merged_again rule base mine theirs merged m path ∙ sym (m.each path))
 
-pub merge_tree : (rule : Side) (base mine theirs merged : Listing) → IsMerge rule base mine theirs merged
+pub merge_tree : (rule : Rule) (base mine theirs merged : Listing) → IsMerge rule base mine theirs merged
     → IsTree (λ path. entry_at mine path) → IsTree (λ path. entry_at theirs path) → IsTree (λ path. entry_at merged path)
 merge_tree rule base mine theirs merged m t1 t2 dir path h there =
     ap is_directory (m.each dir) ∙ merged_tree rule base mine theirs t1 t2 dir path h (ap stands (sym (m.each path)) ∙ there)
@@ -335,7 +336,7 @@ merge_tree rule base mine theirs merged m t1 t2 dir path h there =
 -- ---- what is lost of a side
 
 -- where a directory stays that the side drops, the other side has it
-stays : (rule s : Side) (base mine theirs : Listing) (path : List ℕ) → chosen_at rule base mine theirs path ≡ s
+stays : (rule : Rule) (s : Side) (base mine theirs : Listing) (path : List ℕ) → chosen_at rule base mine theirs path ≡ s
     → is_kept (stands_below rule base mine theirs path) (chosen_at rule base mine theirs path) (three_at base mine theirs path) ≡ true
     → Stays (other s) rule base mine theirs path
 stays rule s base mine theirs path side kept =
@@ -355,7 +356,7 @@ stays rule s base mine theirs path side kept =
     twice Theirs = refl
 
 -- a path that is taken from a side is that side's, or its directory stays
-pub taken_stays : (rule s : Side) (base mine theirs : Listing) (path : List ℕ) → chosen_at rule base mine theirs path ≡ s
+pub taken_stays : (rule : Rule) (s : Side) (base mine theirs : Listing) (path : List ℕ) → chosen_at rule base mine theirs path ≡ s
     → (merged_at rule base mine theirs path ≡ of s (three_at base mine theirs path)) ⊎ Stays (other s) rule base mine theirs path
 taken_stays rule s base mine theirs path side =
     let x : Three = three_at base mine theirs path in
@@ -364,11 +365,11 @@ taken_stays rule s base mine theirs path side =
       | inl kept ↦ inr (stays rule s base mine theirs path side kept)
     ]
 
-pub theirs_stay : (rule : Side) (base mine theirs : Listing) (path : List ℕ) → entry_at mine path ≡ entry_at base path
+pub theirs_stay : (rule : Rule) (base mine theirs : Listing) (path : List ℕ) → entry_at mine path ≡ entry_at base path
     → (merged_at rule base mine theirs path ≡ entry_at theirs path) ⊎ Stays Mine rule base mine theirs path
 theirs_stay rule base mine theirs path h = taken_stays rule Theirs base mine theirs path (untouched_side rule (three_at base mine theirs path) h)
 
-pub mine_stay : (rule : Side) (base mine theirs : Listing) (path : List ℕ) → entry_at theirs path ≡ entry_at base path
+pub mine_stay : (rule : Rule) (base mine theirs : Listing) (path : List ℕ) → entry_at theirs path ≡ entry_at base path
     → (merged_at rule base mine theirs path ≡ entry_at mine path) ⊎ Stays Theirs rule base mine theirs path
 mine_stay rule base mine theirs path h = elim (cases rule (three_at base mine theirs path)) [
   | untouched is ch ↦ elim (taken_stays rule Theirs base mine theirs path ch) [ inl e ↦ inl (e ∙ h ∙ sym is) | inr s ↦ inl (absurd (same_place s (h ∙ sym is))) ]
@@ -380,6 +381,8 @@ mine_stay rule base mine theirs path h = elim (cases rule (three_at base mine th
     same_place : Stays Mine rule base mine theirs path → entry_at theirs path ≡ entry_at mine path → ⊥
     same_place s e = (let d = ap is_directory e in let d1 = s.directory in let d2 = s.dropped in cc)
 
-pub contested_stays : (rule : Side) (base mine theirs : Listing) (path : List ℕ) → is_contested (three_at base mine theirs path) ≡ true
-    → (merged_at rule base mine theirs path ≡ of rule (three_at base mine theirs path)) ⊎ Stays (other rule) rule base mine theirs path
-contested_stays rule base mine theirs path h = taken_stays rule rule base mine theirs path (contested_side rule (three_at base mine theirs path) h)
+pub contested_stays : (rule : Rule) (base mine theirs : Listing) (path : List ℕ) → is_contested (three_at base mine theirs path) ≡ true
+    → (merged_at rule base mine theirs path ≡ of (favoured rule (entry_at mine path) (entry_at theirs path)) (three_at base mine theirs path))
+    ⊎ Stays (other (favoured rule (entry_at mine path) (entry_at theirs path))) rule base mine theirs path
+contested_stays rule base mine theirs path h =
+    taken_stays rule (favoured rule (entry_at mine path) (entry_at theirs path)) base mine theirs path (contested_side rule (three_at base mine theirs path) h)

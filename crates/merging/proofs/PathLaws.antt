@@ -5,6 +5,7 @@ use Rattle.std.specs.Map.{keys_of}
 use Rattle.std.specs.declared.cmp.Ordering.TheVariants.{Less, Equal, Greater}
 use Rattle.std.proofs.lemmas.Map.Lookups.{exact_bytes}
 use Rattle.lists.proofs.Places.{Contains-cases, Contains-head, Contains-tail}
+use Rattle.merging.specs.declared.rule.Rule.{Rule}
 use Rattle.merging.specs.declared.side.Side.{Side}
 use Rattle.merging.specs.Choices.{Three, chosen, is_conflict}
 use Rattle.merging.specs.Listings.{Listing, path_cmp, entry_at, IsListing, stands}
@@ -41,7 +42,7 @@ path_listed base mine theirs path ub um ut some = in_paths base mine theirs path
   ]
 ])
 
-quiet : (rule : Side) (below : Bool) → is_conflict below (chosen rule nothing) nothing ≡ false
+quiet : (rule : Rule) (below : Bool) → is_conflict below (chosen rule nothing) nothing ≡ false
 quiet rule true = refl
 quiet rule false = refl
 
@@ -63,7 +64,7 @@ passed test (x ∷ xs) k there h = by_test (test x) refl (Contains-cases x xs k 
     by_test false e (inl is) later = (let bad = sym e ∙ ap test is ∙ h in absurd (cc))
     by_test false e (inr rest) later = later rest
 
-pub conflict_listed : (rule : Side) (base mine theirs : Listing) (path : List ℕ) → IsListing base → IsListing mine → IsListing theirs
+pub conflict_listed : (rule : Rule) (base mine theirs : Listing) (path : List ℕ) → IsListing base → IsListing mine → IsListing theirs
     → is_conflict_at rule base mine theirs path ≡ true → Contains (merged_conflicts rule base mine theirs) path
 conflict_listed rule base mine theirs path ub um ut h = passed (is_conflict_at rule base mine theirs) (paths_of base mine theirs) path
     (in_paths base mine theirs path ub um ut (λ none.
@@ -72,5 +73,5 @@ conflict_listed rule base mine theirs path ub um ut h = passed (is_conflict_at r
     cc (calm, h)))
     h
 
-pub conflict_only : (rule : Side) (base mine theirs : Listing) (path : List ℕ) → Contains (merged_conflicts rule base mine theirs) path → is_conflict_at rule base mine theirs path ≡ true
+pub conflict_only : (rule : Rule) (base mine theirs : Listing) (path : List ℕ) → Contains (merged_conflicts rule base mine theirs) path → is_conflict_at rule base mine theirs path ≡ true
 conflict_only rule base mine theirs path there = passes (is_conflict_at rule base mine theirs) (paths_of base mine theirs) path there

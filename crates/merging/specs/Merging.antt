@@ -2,6 +2,7 @@
 use Rattle.std.specs.Prelude.{◌≡◌, ℕ, ◌&&◌, ◌++◌, Bool, true, false, List}
 use Rattle.std.specs.List.{list_any}
 use Rattle.std.specs.Map.{keys_of}
+use Rattle.merging.specs.declared.rule.Rule.{Rule}
 use Rattle.merging.specs.declared.side.Side.{Side}
 use Rattle.merging.specs.Choices.{Three, of, other, chosen, settled, is_conflict}
 use Rattle.merging.specs.Listings.{Listing, Place, entry_at, IsListing, stands, is_directory, is_below}
@@ -10,7 +11,7 @@ use Rattle.merging.specs.Listings.{Listing, Place, entry_at, IsListing, stands, 
 abbrev pub three_at : Listing → Listing → Listing → List ℕ → Three
 three_at base mine theirs path = record { base = entry_at base path; mine = entry_at mine path; theirs = entry_at theirs path }
 
-module _ (rule : Side) (base mine theirs : Listing) where
+module _ (rule : Rule) (base mine theirs : Listing) where
   -- the side of a path, if no other path mattered
   abbrev pub chosen_at : List ℕ → Side
   chosen_at path = chosen rule (three_at base mine theirs path)
@@ -41,7 +42,7 @@ module _ (rule : Side) (base mine theirs : Listing) where
     pub each : (path : List ℕ) → entry_at merged path ≡ merged_at path
 
 -- a directory of a side stays, as something below it stands, though the other side dropped or replaced it, which is a conflict
-pub record Stays (kept : Side) (rule : Side) (base mine theirs : Listing) (path : List ℕ) : Type 0 where
+pub record Stays (kept : Side) (rule : Rule) (base mine theirs : Listing) (path : List ℕ) : Type 0 where
   pub merged : merged_at rule base mine theirs path ≡ of kept (three_at base mine theirs path)
   pub directory : is_directory (of kept (three_at base mine theirs path)) ≡ true
   pub dropped : is_directory (of (other kept) (three_at base mine theirs path)) ≡ false

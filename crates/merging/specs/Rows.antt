@@ -3,6 +3,7 @@ use Rattle.std.specs.Prelude.{ℕ, zero, suc, ◌+◌, if◌then◌else◌, ◌+
 use Rattle.std.specs.Map.{keys_of}
 use Rattle.std.specs.Ordering.{is_lt}
 use Rattle.std.specs.Str.{bytes_eq}
+use Rattle.merging.specs.declared.rule.Rule.{Rule}
 use Rattle.merging.specs.declared.side.Side.{Side}
 use Rattle.merging.specs.Choices.{Three, of, chosen, settled, is_conflict}
 use Rattle.merging.specs.Listings.{Listing, Place, path_cmp, stands, is_below}
@@ -66,7 +67,7 @@ abbrev pub line_if : List ℕ → Side → Place → List (List ℕ × (List ℕ
 line_if path side None = []
 line_if path side (Some entry) = (path, (entry, side)) ∷ []
 
-module _ (rule : Side) where
+module _ (rule : Rule) where
   abbrev pub next_with : List ℕ × Three → Option (List ℕ) → Option (List ℕ)
   next_with row next = if stands (of (chosen rule row.1) row.1) then Some row.0 else next
 

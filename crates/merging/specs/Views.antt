@@ -3,6 +3,7 @@ use Rattle.std.specs.Prelude.{ℕ, List}
 use Rattle.std.specs.Option.{option_copied}
 use Rattle.std.specs.Prelude.{map}
 use Rattle.std.specs.List.{filter, flat_map}
+use Rattle.merging.specs.declared.rule.Rule.{Rule}
 use Rattle.merging.specs.declared.side.Side.{Side}
 use Rattle.merging.specs.declared.row.Row.{Row}
 use Rattle.merging.specs.declared.merging.Picked.{Picked}
@@ -32,7 +33,7 @@ conflicts_of merge = map (λ path. path.now) merge.conflicts.items
 abbrev pub plain : List (List ℕ × (List ℕ × Side)) → Listing
 plain lines = map (λ line. (line.0, line.1.0)) lines
 
-module _ (rule : Side) (base mine theirs : Listing) where
+module _ (rule : Rule) (base mine theirs : Listing) where
   -- the line of a path after the merge, if an entry stands there
   abbrev pub line_at : List ℕ → List (List ℕ × (List ℕ × Side))
   line_at path = line_if path (side_at rule base mine theirs path) (merged_at rule base mine theirs path)

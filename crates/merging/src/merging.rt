@@ -7,6 +7,7 @@ ghost use Rattle.merging.specs.Views.{seen, picked, lines_of, conflicts_of, plai
 
 use super::below::has_below;
 use super::row::{Line, Row, rows_of};
+use super::rule::Rule;
 use super::side::Side;
 use std::alloc::{AllocError, Global};
 
@@ -52,7 +53,7 @@ fn push_line<'a>(
 }
 
 /// The first path of which an entry is taken, if `next` is that of the rows behind this row.
-fn next_taken<'a>(rule: Side, row: &Row<'a>, next: Option<&'a [u8]>) -> Option<&'a [u8]>
+fn next_taken<'a>(rule: Rule, row: &Row<'a>, next: Option<&'a [u8]>) -> Option<&'a [u8]>
     ensures { option_copied result ≡ next_with rule (seen row.now) (option_copied next.entry) }
 {
     match row.of(row.chosen(rule)) {
@@ -63,7 +64,7 @@ fn next_taken<'a>(rule: Side, row: &Row<'a>, next: Option<&'a [u8]>) -> Option<&
 
 impl<'a> Merged<'a> {
     /// Appends what a row is decided to, with the first path behind it of which an entry is taken.
-    fn push(&mut self, rule: Side, row: &Row<'a>, next: Option<&[u8]>) -> Result<(), AllocError>
+    fn push(&mut self, rule: Rule, row: &Row<'a>, next: Option<&[u8]>) -> Result<(), AllocError>
         ensures lines { OnOk result (lines_of self.new ≡ lines_of self.old ++ row_lines rule (option_copied next.entry) (seen row.now)) }
         ensures conflicts { OnOk result (conflicts_of self.new ≡ conflicts_of self.old ++ row_conflicts rule (option_copied next.entry) (seen row.now)) }
     {
@@ -77,7 +78,7 @@ impl<'a> Merged<'a> {
 }
 
 /// Decides each row, from the last to the first, so that what stands below a directory is known before it.
-fn decide<'a>(alloc: Global, rule: Side, rows: Vec<Row<'a>>) -> Result<Merged<'a>, AllocError>
+fn decide<'a>(alloc: Global, rule: Rule, rows: Vec<Row<'a>>) -> Result<Merged<'a>, AllocError>
     ensures lines { IfOk result (λ merge. lines_of merge ≡ lines_in rule (map seen rows.entry.items)) }
     ensures conflicts { IfOk result (λ merge. conflicts_of merge ≡ conflicts_in rule (map seen rows.entry.items)) }
 {
@@ -102,7 +103,7 @@ fn decide<'a>(alloc: Global, rule: Side, rows: Vec<Row<'a>>) -> Result<Merged<'a
 /// directory stays as long as something below it stands. Each listing is read once.
 pub fn merge<'a>(
     alloc: Global,
-    rule: Side,
+    rule: Rule,
     base: &'a [Line],
     mine: &'a [Line],
     theirs: &'a [Line],

@@ -8,6 +8,8 @@ use std::alloc::{AllocError, AllocFailed};
 pub enum ListingRefusal {
     /// It spells no listing.
     BadForm,
+    /// It has more than 64 MiB.
+    TooLong,
     OutOfMemory,
 }
 

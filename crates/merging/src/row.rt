@@ -6,6 +6,7 @@ ghost use Rattle.merging.specs.Rows.{first_path, lesser, first_entry, behind, le
 ghost use Rattle.merging.specs.Views.{three_of, seen};
 
 use super::below::is_directory;
+use super::rule::Rule;
 use super::side::Side;
 use names::Items;
 use std::alloc::{AllocError, Global};
@@ -45,7 +46,7 @@ impl<'a> Row<'a> {
     }
 
     /// The side that is taken, if no other path mattered.
-    pub(crate) fn chosen(&self, rule: Side) -> Side
+    pub(crate) fn chosen(&self, rule: Rule) -> Side
         ensures { result ≡ chosen rule (three_of self.now) }
     {
         if same(self.mine, self.base) {
@@ -55,7 +56,7 @@ impl<'a> Row<'a> {
         } else if same(self.mine, self.theirs) {
             Side::Theirs
         } else {
-            rule
+            rule.favoured(self.mine, self.theirs)
         }
     }
 

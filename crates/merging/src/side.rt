@@ -1,7 +1,7 @@
 ghost use Rattle.std.specs.Prelude.{◌≡◌};
 ghost use Rattle.merging.specs.Choices.{other};
 
-/// Where a path of a merge comes from; as a rule, who is right where both changed a path, differently.
+/// Where a path of a merge comes from.
 #[derive(Clone, Copy, Debug, PartialEq, Eq)]
 pub enum Side {
     /// What the command left.

@@ -1,5 +1,5 @@
 //! Reading and writing the text of a listing.
-ghost use Rattle.std.specs.Prelude.{◌≡◌, ◌≢◌, ℕ, List, ◌++◌, IfOk, OnOk};
+ghost use Rattle.std.specs.Prelude.{◌≡◌, ◌≢◌, ℕ, ◌<◌, List, ◌++◌, length, IfOk, OnOk};
 ghost use Rattle.names.specs.Digests.{IsBytes};
 ghost use Rattle.merging.specs.Listings.{Listing, IsListing};
 ghost use Rattle.merging.specs.Texts.{line_words, line_text, listing_text, IsLine, AreLines};
@@ -12,8 +12,11 @@ use names::Items;
 use names::reading::split;
 use std::alloc::{AllocError, Global};
 
+/// How long the text of a listing may be: 64 MiB.
+pub const LISTING_LIMIT: usize = 64 << 20;
+
 /// Adds a line.
-fn push_line(text: &mut Vec<u8>, path: &[u8], entry: &[u8]) -> Result<(), AllocError>
+pub(crate) fn push_line(text: &mut Vec<u8>, path: &[u8], entry: &[u8]) -> Result<(), AllocError>
     ensures { OnOk result (text.new.items ≡ text.old.items ++ line_text (path.now, entry.now)) }
 {
     push_path(text, path)?;
@@ -39,6 +42,7 @@ fn line_of(alloc: Global, text: &str) -> Result<Line, ListingRefusal>
     ensures spelled { IfOk result (λ line. text.now ≡ line_words line) }
     ensures bytes { IfOk result (λ line. IsBytes line.0) }
     ensures only { result ≡ Err ListingRefusal.BadForm → (line : List ℕ × List ℕ) → IsBytes line.0 → text.now ≢ line_words line }
+    ensures short { result ≢ Err ListingRefusal.TooLong }
 {
     let Some((path, entry)) = split(text, ' ') else {
         return Err(ListingRefusal::BadForm);
@@ -53,6 +57,7 @@ fn lines_of(alloc: Global, text: &str) -> Result<Vec<Line>, ListingRefusal>
     ensures spelled { IfOk result (λ lines. text.now ≡ listing_text lines.items) }
     ensures lines { IfOk result (λ lines. AreLines lines.items) }
     ensures only { result ≡ Err ListingRefusal.BadForm → (lines : Listing) → AreLines lines → text.now ≢ listing_text lines }
+    ensures short { result ≢ Err ListingRefusal.TooLong }
 {
     let mut lines = Vec::new(alloc);
     let mut rest = text;
@@ -69,13 +74,19 @@ fn lines_of(alloc: Global, text: &str) -> Result<Vec<Line>, ListingRefusal>
 /// The listing that a text spells: a line for each path, rising by their bytes.
 ///
 /// A path is written as its names with `/` between them; of a name's bytes those that are not visible ASCII, and `#`, `%`, `@` and `/`,
-/// as `%` and two digits (`/`, which no name has, as `%00`). Behind a space stands the entry.
+/// as `%` and two digits (`/`, which no name has, as `%00`). Behind a space stands the entry. A text that is too long is refused before
+/// anything of it is read.
 pub fn read_listing(alloc: Global, text: &str) -> Result<Vec<Line>, ListingRefusal>
     ensures spelled { IfOk result (λ lines. text.now ≡ listing_text lines.items) }
     ensures listing { IfOk result (λ lines. IsListing lines.items) }
     ensures lines { IfOk result (λ lines. AreLines lines.items) }
     ensures only { result ≡ Err ListingRefusal.BadForm → (lines : Listing) → AreLines lines → IsListing lines → text.now ≢ listing_text lines }
+    ensures too_long { LISTING_LIMIT < length text.now → result ≡ Err ListingRefusal.TooLong }
+    ensures short { result ≡ Err ListingRefusal.TooLong → LISTING_LIMIT < length text.now }
 {
+    if LISTING_LIMIT < text.len() {
+        return Err(ListingRefusal::TooLong);
+    }
     let lines = lines_of(alloc, text)?;
     if is_listing(lines.as_slice()) {
         Ok(lines)

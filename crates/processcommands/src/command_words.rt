@@ -1,17 +1,19 @@
 //! The words of the commands.
 
-use super::places::{CoordinatorPlace, NodePlace};
+use super::places::{CoordinatorPlace, MergePlace, NodePlace};
 use clap::builder::ValueParser;
 use clap::error::ErrorKind;
 use clap::{Arg, ArgMatches, Error};
+use merging::{Rule, Side};
 use names::{NODES, NodeId};
 use std::alloc::{AllocError, Global};
 
-/// A process of a farm, which answers the lines of the standard input.
+/// A process of a farm, which answers the lines of the standard input, or one that merges listings.
 #[derive(Clone, Copy)]
 pub enum Process<'a> {
     Coordinator(CoordinatorPlace<'a>),
     Node(NodePlace<'a>),
+    Merge(MergePlace<'a>),
 }
 
 /// What `coordinator` reads and prints.
@@ -101,6 +103,63 @@ pub fn node_command<'a>(alloc: Global) -> Result<clap::Command<'a>, AllocError> 
         .arg(place_arg(alloc, "key", "FILE", key))
 }
 
+/// What `merge` reads and prints.
+const MERGE_LINES: &str =
+    "Each file holds a line `PATH ENTRY` for each path. Prints, by rising path,
+  theirs PATH ENTRY   for a path that stands as THEIRS has it, or both have
+  mine PATH ENTRY     for one that stands as MINE has it
+and then
+  conflict PATH       for one that both changed differently, or a folder that stays
+
+Status 1 with `refused BadListing` or `refused TooLong`: a file holds no listing, or a longer one than 64 MiB.";
+
+/// A listing that has to be named.
+fn listing_arg<'a>(alloc: Global, name: &'static str, help: &'static str) -> Arg<'a> {
+    Arg::new(alloc, name)
+        .required(true)
+        .value_parser(ValueParser::NonEmptyString)
+        .help(help)
+}
+
+/// The words of the rules.
+const RULES: &[&str] = &["newer", "theirs", "mine"];
+
+/// Who is right where both sides changed a path, differently.
+fn rule_arg<'a>(alloc: Global) -> Arg<'a> {
+    Arg::new(alloc, "rule")
+        .long("rule")
+        .value_name("RULE")
+        .value_parser(ValueParser::Names(RULES))
+        .help(
+            "What stands where both changed a path differently: the newer entry, which is the default, or always that side's",
+        )
+}
+
+/// The command `merge`.
+pub fn merge_command<'a>(alloc: Global) -> Result<clap::Command<'a>, AllocError> {
+    let base = "The listing of the version that both sides began from";
+    let mine = "The listing of what a command left";
+    let theirs = "The listing of the version that this is merged into";
+    clap::Command::new(alloc, "merge")
+        .about(
+            "Merges what a command changed of a folder into what the folder has become meanwhile",
+        )
+        .after_help(MERGE_LINES)
+        .arg(rule_arg(alloc))?
+        .arg(listing_arg(alloc, "BASE", base))?
+        .arg(listing_arg(alloc, "MINE", mine))?
+        .arg(listing_arg(alloc, "THEIRS", theirs))
+}
+
+/// The rule of this word.
+fn rule_of(word: &str) -> Rule {
+    match word {
+        "theirs" => Rule::Always(Side::Theirs),
+        "mine" => Rule::Always(Side::Mine),
+        _ => Rule::Newer,
+    }
+}
+
 /// The process that the command of this name asks for, if it asks for one.
 pub fn named<'a>(name: &str, found: &ArgMatches<'a>) -> Option<Process<'a>> {
     match name {
@@ -114,6 +173,12 @@ pub fn named<'a>(name: &str, found: &ArgMatches<'a>) -> Option<Process<'a>> {
             store: found.get_str("store").unwrap_or(""),
             key: found.get_str("key").unwrap_or(""),
         })),
+        "merge" => Some(Process::Merge(MergePlace {
+            rule: rule_of(found.get_str("rule").unwrap_or("")),
+            base: found.get_str("BASE").unwrap_or(""),
+            mine: found.get_str("MINE").unwrap_or(""),
+            theirs: found.get_str("THEIRS").unwrap_or(""),
+        })),
         _ => None,
     }
 }
@@ -126,9 +191,9 @@ pub fn disagreement(process: Process<'_>) -> Option<&'static str> {
     }
 }
 
-/// What the help of the program of these two commands says below them.
+/// What the help of the program of these commands says below them.
 const NOTES: &str =
-    "Both are what they are in `farmctl`, which has more commands, and end with the same statuses.";
+    "They are what they are in `farmctl`, which has more commands, and end with the same statuses.";
 
 /// The program with one more command, where there is memory for it.
 pub fn with<'a>(
@@ -144,18 +209,21 @@ fn bare_program<'a>(alloc: Global) -> Result<clap::Command<'a>, AllocError> {
     let program = clap::Command::new(alloc, "farmd")
         .bin_name("farmd")?
         .version("0.1.0")
-        .about("The processes of a container build farm: its coordinator, and its nodes")
+        .about(
+            "The processes of a container build farm: its coordinator, its nodes, and the merge of a folder's versions",
+        )
         .after_help(NOTES)
         .no_binary_name(true)
         .subcommand_required(true);
     Ok(program)
 }
 
-/// The program of these two commands alone.
+/// The program of these commands alone.
 fn farmd<'a>(alloc: Global) -> Result<clap::Command<'a>, AllocError> {
     let program = bare_program(alloc)?;
     let program = with(program, coordinator_command(alloc))?;
-    with(program, node_command(alloc))
+    let program = with(program, node_command(alloc))?;
+    with(program, merge_command(alloc))
 }
 
 /// The process that words ask for.

@@ -1,4 +1,5 @@
-//! Where the files of a process are.
+//! Where the files of a command are.
+use merging::Rule;
 use names::NodeId;
 
 /// Where a coordinator has its files.
@@ -20,4 +21,16 @@ pub struct NodePlace<'a> {
     pub store: &'a str,
     /// The farm's key.
     pub key: &'a str,
+}
+
+/// Where the listings are that are to be merged, and by which rule.
+#[derive(Clone, Copy)]
+pub struct MergePlace<'a> {
+    pub rule: Rule,
+    /// The listing of the version that both sides began from.
+    pub base: &'a str,
+    /// The listing of what the command left.
+    pub mine: &'a str,
+    /// The listing of the last version.
+    pub theirs: &'a str,
 }

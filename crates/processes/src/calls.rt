@@ -1,9 +1,10 @@
-//! What the commands `coordinator` and `node` do.
+//! What the commands `coordinator`, `node` and `merge` do.
 ghost use Rattle.std.specs.Prelude.{◌≢◌};
 ghost use Rattle.processcommands.specs.declared.statuses.TheConstants.{DONE};
 
 use super::coordinator_process::run_coordinator;
 use super::fault::{Cause, ProcessFault};
+use super::merge_process::run_merge;
 use super::node_process::run_node;
 use processcommands::{DONE, FAULT, MEMORY, Process, REFUSED, print, print_usage, process_of};
 use std::alloc::Global;
@@ -19,6 +20,7 @@ fn status_of(cause: &Cause) -> u8
         Cause::OutOfMemory => MEMORY,
         Cause::KeyTooShort | Cause::BadRecord | Cause::LogAlone => REFUSED,
         Cause::OtherNode(_) | Cause::BadLife | Cause::LivesSpent => REFUSED,
+        Cause::BadListing | Cause::TooLong => REFUSED,
         Cause::Locked | Cause::NotKept | Cause::NotLoaded => FAULT,
         Cause::File(_) | Cause::Stream(_) => FAULT,
     }
@@ -34,7 +36,7 @@ fn print_process_fault<E: Write>(alloc: Global, fault: &ProcessFault, err: &mut 
     }
 }
 
-/// Is this process of a farm, up to the end of the standard input.
+/// Is this process of a farm, up to the end of the standard input, or does this merge.
 pub fn carry_out<
     R: Files<File = File> + Input + Clock + AllocGlobal + Clone + Drop,
     O: Write,
@@ -43,6 +45,7 @@ pub fn carry_out<
     let ended = match process {
         Process::Coordinator(place) => run_coordinator(rt, place, out),
         Process::Node(place) => run_node(rt, place, out),
+        Process::Merge(place) => run_merge(rt, place, out),
     };
     match ended {
         Ok(()) => DONE,

@@ -21,6 +21,10 @@ pub enum Cause {
     LivesSpent,
     /// The node's next life could not be kept.
     NotKept,
+    /// The file holds no listing.
+    BadListing,
+    /// The file is longer than a listing may be.
+    TooLong,
     /// The file can't be read, made or written.
     File(io::Error),
     /// The record, or the log behind it, can't be read again, or has changed since it was opened.
@@ -96,6 +100,12 @@ impl ProcessFault {
             ),
             Cause::NotKept => format!(in alloc;
                 "fault StoreFault\n{path}: the node's next life can't be kept there. See that there is room, and that this user may write it.\n"
+            ),
+            Cause::BadListing => format!(in alloc;
+                "refused BadListing\n{path} holds no listing: a line `PATH ENTRY` for each path, rising, each once. Nothing was merged.\n"
+            ),
+            Cause::TooLong => format!(in alloc;
+                "refused TooLong\n{path} has more than 64 MiB, which no listing may have. Nothing was merged.\n"
             ),
             Cause::File(error) => format!(in alloc;
                 "fault FileFault\n{path}: {error}. See that its folder is there, and that this user may read and write it.\n"

@@ -1,4 +1,4 @@
-//! Keys and locks.
+//! Keys, locks and the bytes of files.
 use super::fault::{Cause, ProcessFault};
 use farmwire::{FarmKey, KeyRefusal};
 use std::fs::{self, File, OpenOptions, TryLockError};
@@ -10,6 +10,19 @@ fn bytes_of<R: Files + AllocGlobal>(rt: &R, path: &str) -> io::Result<Vec<u8>> {
     let mut bytes = Vec::new(rt.alloc());
     let mut file = fs::open(rt, path)?;
     file.read_to_end(&mut bytes)?;
+    Ok(bytes)
+}
+
+/// The bytes of a file, and of one that has more than `most` of them one more than these.
+pub(crate) fn most_bytes_of<R: Files + AllocGlobal>(
+    rt: &R,
+    path: &str,
+    most: usize,
+) -> io::Result<Vec<u8>> {
+    let mut bytes = Vec::new(rt.alloc());
+    let file = fs::open(rt, path)?;
+    let mut part = file.take((most as u64).saturating_add(1));
+    part.read_to_end(&mut bytes)?;
     Ok(bytes)
 }
 
