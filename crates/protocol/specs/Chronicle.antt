@@ -227,7 +227,7 @@ module _ (sha : List ℕ → Digest) (limits : Limits) where
         → (slot : Slot)
         → (after farm event).ledger.line slot
         ≡ farm.ledger.line slot ++ adds limits.empty farm.pool event outcome.note slot
-    -- from an accepted begin on, until an event that ends it, none begins that shares a PRIVATE or SHARED slot with it
+    -- from an accepted begin on, until an event that ends it, none begins with one of its PRIVATE instances or its tenure
     pub alone : (node node' : NodeId) (ticket ticket' : Ticket) (late : List Event) (outcome outcome' : Outcome)
         → answer farm (Begin node ticket) ≡ Ok outcome
         → GoesOn node ticket late (after farm (Begin node ticket))

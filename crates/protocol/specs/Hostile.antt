@@ -143,7 +143,7 @@ module _ (taken : ℕ → Bool) (sha : List ℕ → Digest) where
         → In (Told (told.Fenced node life ticket)) world.pool
         → OnALine (sha []) world.machine ticket
         → ⊥
-    -- two different executions of honest nodes never share a PRIVATE or SHARED slot
+    -- no two executions of honest nodes have one PRIVATE instance, or one tenure's slot
     pub alone : (node node' : NodeId) (grant grant' : Grant) (wants wants' : List Want) (slot : Slot)
         → IsHonest node
         → IsHonest node'

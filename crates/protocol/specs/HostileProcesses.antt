@@ -72,7 +72,7 @@ module _ (taken : ℕ → Bool) (sha : List ℕ → Digest) (limits : Limits) wh
         → HoldsContent (processes.nodes node.0) slot number content
         → HoldsContent (later.nodes node'.0) slot number content'
         → (content ≡ content') ⊎ ((content ≢ content') × (sha content ≡ sha content'))
-    -- two different executions of honest nodes never share a PRIVATE or SHARED slot
+    -- no two executions of honest nodes have one PRIVATE instance, or one tenure's slot
     pub alone : (node node' : NodeId) (grant grant' : Grant) (wants wants' : List Want) (slot : Slot)
         → taken node.0 ≡ false
         → taken node'.0 ≡ false

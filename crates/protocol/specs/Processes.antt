@@ -260,7 +260,7 @@ pub record StaySafe (sha : List ℕ → Digest) (processes later : Processes) : 
       → HoldsContent (processes.nodes node.0) slot number content
       → HoldsContent (later.nodes node'.0) slot number content'
       → (content ≡ content') ⊎ ((content ≢ content') × (sha content ≡ sha content'))
-  -- two different executions never share a PRIVATE or SHARED slot
+  -- no two executions have one PRIVATE instance, or one tenure's slot
   pub alone : (node node' : NodeId) (grant grant' : Grant) (wants wants' : List Want) (slot : Slot)
       → Executes (processes.nodes node.0) grant wants → Executes (processes.nodes node'.0) grant' wants'
       → Has grant slot → Has grant' slot → is_alone slot ≡ true

@@ -78,7 +78,7 @@ module _ (sha : List ℕ → Digest) where
         → In (Told (told.Fenced node life ticket)) world.pool
         → OnALine (sha []) world.machine ticket
         → ⊥
-    -- two different executions never share a PRIVATE or SHARED slot
+    -- no two executions have one PRIVATE instance, or one tenure's slot
     pub alone : (node node' : NodeId) (grant grant' : Grant) (wants wants' : List Want) (slot : Slot)
         → InUse world node grant wants
         → InUse world node' grant' wants'

@@ -27,7 +27,7 @@ pub fn every_schedule_is_safe()
 /// Every schedule has a chronicle: a world after each event, safe, led to by moves, in which the event meant what
 /// its outcome says. So, in terms of events and answers alone: what is withdrawn, by a call, a retirement, a newer
 /// life or a restart, is never committed later and is on no line; each line grows by what the answers name, and by
-/// nothing else; no two executions share a PRIVATE or SHARED slot; two nodes hold one content for a version.
+/// nothing else; no two executions have one PRIVATE instance or one tenure; two nodes hold one content for a version.
 pub fn every_schedule_means()
     ensures chronicle { EveryScheduleHasAChronicle }
     ensures headline { EveryScheduleMeans }
@@ -131,7 +131,7 @@ pub fn processes_are_the_farm()
 /// Some nodes were taken over, and whoever did so writes any line under their keys, at any time, beside what the rules
 /// let all others do. What such a node spoils is what it was leased: each version on a line is of its ticket's own node
 /// and lease, or of a prune; no lease ends but by its own node's word or the operator's; honest nodes hold one content
-/// for a version and share no PRIVATE or SHARED slot; and of a retired node nothing counts any more.
+/// for a version and share no PRIVATE instance and no tenure; and of a retired node nothing counts any more.
 pub fn a_hostile_node_spoils_only_what_it_was_leased()
     ensures safe { EveryRaidIsSafe }
     ensures stays { EveryRaidStaysSafe }
