@@ -3,11 +3,10 @@ use Rattle.std.proofs.Common.{◌≡◌, ℕ, ◌⊎◌, inl, inr, Bool, true, f
 use Rattle.std.proofs.lemmas.Bool.{cases_Bool}
 use Rattle.std.proofs.lemmas.Slice.Eq.{bytes_eq-Decides}
 use Rattle.merging.specs.declared.rule.Rule.{Rule}
-use Rattle.merging.specs.declared.rule.Rule.TheVariants.{Newer}
 use Rattle.merging.specs.declared.side.Side.{Side}
 use Rattle.merging.specs.declared.side.Side.TheVariants.{Mine, Theirs}
 use Rattle.merging.specs.Listings.{Place}
-use Rattle.merging.specs.Choices.{Three, of, other, same, entry_cmp, newer, favoured, chosen, is_contested}
+use Rattle.merging.specs.Choices.{Three, of, same, favoured, chosen, is_contested}
 
 pub same_true : (a b : Place) → same a b ≡ true → a ≡ b
 same_true None None h = refl

@@ -10,7 +10,7 @@ use Rattle.std.proofs.lemmas.Map.Lookups.{exact_bytes}
 use Rattle.merging.specs.declared.rule.Rule.TheVariants.{Newer}
 use Rattle.merging.specs.declared.side.Side.{Side}
 use Rattle.merging.specs.declared.side.Side.TheVariants.{Mine, Theirs}
-use Rattle.merging.specs.Choices.{Three, of, other, same, entry_cmp, newer, chosen, is_contested, is_kept, settled}
+use Rattle.merging.specs.Choices.{Three, of, other, same, entry_cmp, newer, chosen, is_contested, is_kept}
 use Rattle.merging.specs.Listings.{Listing, Place, stands, is_directory}
 use Rattle.merging.specs.Merging.{three_at, chosen_at, stands_below, merged_at, is_conflict_at}
 use Rattle.merging.specs.Times.{in_digits, time_text}

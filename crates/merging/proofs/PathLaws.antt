@@ -6,7 +6,6 @@ use Rattle.std.specs.declared.cmp.Ordering.TheVariants.{Less, Equal, Greater}
 use Rattle.std.proofs.lemmas.Map.Lookups.{exact_bytes}
 use Rattle.lists.proofs.Places.{Contains-cases, Contains-head, Contains-tail}
 use Rattle.merging.specs.declared.rule.Rule.{Rule}
-use Rattle.merging.specs.declared.side.Side.{Side}
 use Rattle.merging.specs.Choices.{Three, chosen, is_conflict}
 use Rattle.merging.specs.Listings.{Listing, path_cmp, entry_at, IsListing, stands}
 use Rattle.merging.specs.Merging.{three_at, stands_below, is_conflict_at}
