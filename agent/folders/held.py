@@ -49,8 +49,8 @@ class Held:
         rows = loaded(self.note, FORM)
         if rows and os.path.isdir(self.path) and tuple(rows[0]) == self._whose():
             for path, *rest in rows[1:]:
-                self.entries[str(path)] = Entry(*rest[:7])
-                self.marks[str(path)] = Mark(*rest[7:])
+                self.entries[path] = Entry(*rest[:7])
+                self.marks[path] = Mark(*rest[7:])
             self.is_saved = True
 
     def _whose(self) -> tuple[Any, ...]:

@@ -13,7 +13,7 @@ import struct
 import threading
 from bisect import bisect_left, bisect_right
 from functools import cached_property
-from typing import Callable, Iterator
+from typing import Any, Callable, Iterator
 
 from agent.faults import FarmFault
 from agent.folders.layout import ENTRY, FILENAME, GOODBYE, HEAD, PAYLOAD, SYMLINK, Layout, shown
@@ -217,7 +217,7 @@ class Versions:
         return max(known, key=lambda version: len(names.intersection(version.names)), default=none(chunks))
 
 
-def loaded(path: str, form: str) -> list[tuple[object, ...]] | None:
+def loaded(path: str, form: str) -> list[Any] | None:
     """The rows of a file of the node's own, which begins with a digest of the rest; none where it isn't there, or isn't whole."""
     try:
         with open(path, "rb") as file:

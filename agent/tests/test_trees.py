@@ -489,6 +489,20 @@ class Paths(support.RoomTest):
         places.clear(path)
         self.assertEqual((os.listdir(path), self.read("mine/f")), ([], "x"))
 
+    def test_left_early(self) -> None:
+        """What nobody waits for any more isn't kept, and the folder isn't taken for a version."""
+        store, places, path = FolderStore(self.path("store")), Places(self.path("home")), self.path("w")
+
+        def gone() -> None:
+            raise FarmFault("nobody waits")
+
+        places.clear(path)
+        self.write("w/f", "x")
+        with self.assertRaisesRegex(FarmFault, "nobody waits"):
+            places.keep(store, path, check=gone)
+        self.assertEqual(os.listdir(store.indexes), [])
+        self.assertEqual(places.keep(store, path), support.kept(store, path))
+
     @unittest.skipUnless(support.has("casync"), support.needs("casync"))
     def test_own_disk(self) -> None:
         """A node makes nothing where the system has files that aren't kept: what it leaves there when it is killed nobody removes."""
