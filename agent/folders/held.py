@@ -43,6 +43,7 @@ class Held:
         self.others: list[str] = []
         self.newest = 0  # when something there was changed last, in nanoseconds
         self.is_saved = False
+        self.stands = ""  # a version that it held when somebody left it, if that is known
         self._load()
 
     def _load(self) -> None:

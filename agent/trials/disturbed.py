@@ -130,7 +130,7 @@ def later(seconds: float, does: Callable[..., object], *words: object) -> None:
 def publish_late(real: Callable[..., str]) -> Callable[..., str]:
     """Gives the digest of a content that the store will have only later."""
 
-    def publish(made: Any, index: bytes, *_away: object) -> str:
+    def publish(made: Any, index: bytes, *_others: object) -> str:
         later(EARLY, real, made, index)
         return hashlib.sha256(index).hexdigest()
 
