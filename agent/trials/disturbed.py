@@ -23,6 +23,7 @@ from agent.commands.main import main as farm  # noqa: E402
 from agent.filters.lines import Answer  # noqa: E402
 from agent.filters.node import NodeAgent  # noqa: E402
 from agent.folders import held  # noqa: E402
+from agent.runs import merged  # noqa: E402
 from agent.service import serving  # noqa: E402
 from agent.store import folder, redis  # noqa: E402
 from agent.transport.local import LocalTransport, Transport, address_of  # noqa: E402
@@ -152,6 +153,9 @@ def main() -> int:
     if said.get("wrong") == "stale":
         folders: Any = held.Held
         folders.look = lambda self, *_check: False
+    if said.get("wrong") == "snapshot":
+        merges: Any = merged.MergedFolders
+        merges._merge = lambda self, own, slot, *_others: setattr(own, "number", slot.base)
     return farm()
 
 
