@@ -12,8 +12,10 @@ from agent.faults import UsageFault
 
 EMPTY = "e3b0c44298fc1c149afbf4c8996fb92427ae41e4649b934ca495991b7852b855"  # of no bytes: the content of a folder that has no version
 SHARINGS = ("shared", "private", "locked")
+USES = (*SHARINGS, "merged")  # what a command may do with a folder: of a `merged` one the slot is that of the `locked` one
 MOST_FOLDERS = 16  # of one lease
-FOLDER = re.compile(r"(shared|private|locked):((?:[!-\"$&-?A-~]|%[0-9A-F]{2})*)(@[0-9a-f]{64}\.\d{1,19})?")
+WANTED = re.compile(r"(shared|private|locked|merged):((?:[!-\"$&-?A-~]|%[0-9A-F]{2})*)(@[0-9a-f]{64}\.\d{1,19})?")
+FOLDER = re.compile(WANTED.pattern.replace("|merged", ""))
 DIGEST = re.compile(r"[0-9a-f]{64}")
 
 
@@ -53,6 +55,10 @@ class Want(NamedTuple):
     def is_shared(self) -> bool:
         return self.folder.startswith("shared:")
 
+    @property
+    def is_merged(self) -> bool:
+        return self.folder.startswith("merged:")
+
 
 def want_of(word: str) -> Want:
     """`[ro=]FOLDER=PATH`. Both may have a `=` within: the path begins at the first one that `/` follows, or is the only one."""
@@ -64,10 +70,10 @@ def want_of(word: str) -> Want:
         raise UsageFault(f"--folder wants FOLDER=PATH, as locked:ccache=/tmp/ccache, and got {word!r}")
     if whole < 0 and "=" in folder:
         raise UsageFault(f"{word!r} has several =, and each may end the folder: name the path from / on")
-    if not is_folder(folder):
+    if not WANTED.fullmatch(folder):
         sharing, colon, identifier = folder.partition(":")
-        hint = f": write {folder_text(sharing, identifier)}" if colon and sharing in SHARINGS else ""
-        raise UsageFault(f"{folder!r} is no folder: it begins with locked:, private: or shared:, and has no spaces{hint}")
+        hint = f": write {folder_text(sharing, identifier)}" if colon and sharing in USES else ""
+        raise UsageFault(f"{folder!r} is no folder: it begins with merged:, locked:, private: or shared:, and has no spaces{hint}")
     return Want(folder, path, writable)
 
 

@@ -145,13 +145,13 @@ class Build:
                 os.chown(place, mount.uid, mount.gid)
                 os.chmod(place, mount.mode)
 
-        def left() -> None:
-            for want in wants:
-                builder.unwanted(image, want.path)
+        def left(want: Want, path: str) -> None:
+            builder.unwanted(image, path)
 
         job = Job(
             command=command, cwd=asked.context, env=env, wants=wants, wait=asked.wait, stops_when_lost=asked.stops_when_lost,
             keeps_failed=asked.keep_failed, fenced_status=FENCED_BUILD, lost_status=LOST, of_shared=OF_SHARED, filled=filled, left=left,
+            on_conflict=asked.on_conflict, tells_conflicts=asked.tells_conflicts,
         )
         return self._settled(job, image)
 

@@ -129,11 +129,20 @@ def _run_words(verbs: Any) -> None:
     )
     run.usage = "farm run [OPTION].. [--folder [ro=]FOLDER=PATH].. [--] COMMAND.."
     run.add_argument("--node", type=node, metavar="N", help="the node that runs it (the first one here that isn't retired)")
-    run.add_argument("--folder", action="append", default=[], metavar="[ro=]FOLDER=PATH", help="locked:ID, private:ID or shared:ID")
+    run.add_argument("--folder", action="append", default=[], metavar="[ro=]FOLDER=PATH", help="merged:ID, locked:ID, private:ID or shared:ID")
     run.add_argument("--wait", type=seconds, metavar="SECONDS", help="waits no longer for the lease, and for 0 only takes what is free: else the status is 75")
     run.add_argument("--must-commit", action="store_true", help="status 75 where what the command left doesn't count")
     run.add_argument("--on-lost", choices=["stop", "go-on"], default="go-on", help="what a command does whose lease has ended")
+    _merged_words(run)
     run.add_argument("command", nargs=argparse.REMAINDER, metavar="COMMAND")
+
+
+def _merged_words(made: argparse.ArgumentParser) -> None:
+    made.add_argument(
+        "--on-conflict", choices=["newer", "theirs", "mine", "fail"], default="newer",
+        help="whose a path of a merged folder is that others changed meanwhile too (%(default)s); fail: nothing counts, and the status is 75",
+    )
+    made.add_argument("--verbose", action="store_true", help="tells each such path")
 
 
 def _build_words(verbs: Any) -> None:
@@ -148,9 +157,10 @@ def _build_words(verbs: Any) -> None:
     build.add_argument("--format", choices=["oci", "docker"])
     build.add_argument("--wait", type=seconds, metavar="SECONDS")
     build.add_argument("--on-lost", choices=["stop", "go-on"], default="go-on")
-    build.add_argument("--shared-as", choices=["shared", "locked", "private"], default="shared", help="treats shared mounts so")
+    build.add_argument("--shared-as", choices=["shared", "locked", "private", "merged"], default="shared", help="treats shared mounts so")
     build.add_argument("--keep-failed", action="store_true", help="commits also what a failed build left")
     build.add_argument("--tag-fenced", action="store_true", help="tags the image also where the lease had ended")
+    _merged_words(build)
     build.add_argument("context", type=path)
 
 

@@ -141,6 +141,7 @@ def do_run(args: argparse.Namespace) -> int:
     return ask_node(args.home, args.node, RunRequest(
         command=tuple(command), folders=tuple(args.folder), cwd=own_folder(), env=own_environment(), umask=own_umask(),
         wait=args.wait, must_commit=args.must_commit, stops_when_lost=args.on_lost == "stop",
+        on_conflict=args.on_conflict, tells_conflicts=args.verbose,
     ))
 
 
@@ -155,4 +156,5 @@ def do_build(args: argparse.Namespace) -> int:
         build_args={key: value if equals else os.environ[key] for key, equals, value in given if equals or key in os.environ},
         format=args.format, wait=args.wait, stops_when_lost=args.on_lost == "stop", shared_as=args.shared_as,
         keep_failed=args.keep_failed, tag_fenced=args.tag_fenced, env={key: value for key, value in os.environ.items() if key in BUILD_ENV},
+        on_conflict=args.on_conflict, tells_conflicts=args.verbose,
     ))

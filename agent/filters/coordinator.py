@@ -18,7 +18,7 @@ from agent.transport.needs import parts
 from agent.filters.node import HEARTBEAT, Setup
 from agent.transport.local import COORDINATOR, address_of, node_address
 from agent.service.operators import FolderStatus, Lease, Status, Version, Waiting
-from agent.words import DIGEST, is_folder
+from agent.words import DIGEST, EMPTY, is_folder
 
 NUDGE_MOST = 15.0
 AT_ONCE = 64  # lines that are carried together
@@ -150,8 +150,17 @@ class CoordinatorAgent:
             with contextlib.suppress(FarmFault):  # while the coordinator refuses, nobody is told
                 held = self.holders(node, folders)
                 self.setup.transport.send(node_address(node), self.hints.seal(f"held {node} {ask} {held}"))
+        if words[0] == "last":
+            self._tell_last(int(words[1]), words[2], words[3])
         if words[0] == "needs" and self.telling.acquire(blocking=False):  # one at a time: old questions come again too
             threading.Thread(target=self._tell_needed, args=(int(words[1]), words[2], int(words[3])), daemon=True).start()
+
+    def _tell_last(self, node: int, word: str, slot: str) -> None:
+        """The last version of a slot, to a node that has no lease of it."""
+        with contextlib.suppress(FarmFault):
+            found = next((each for each in self.status().folders if each.slot == slot), None)
+            text = f"lastis {node} {word} {found.version} {found.digest}" if found else f"lastis {node} {word} 0 {EMPTY}"
+            self.setup.transport.send(node_address(node), self.hints.seal(text))
 
     def _tell_ended(self, node: int, tickets: set[int]) -> None:
         """Tells a node which of the leases that its commands run under are over: a restart tells it nobody, and what was told may be lost."""

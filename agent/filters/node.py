@@ -21,6 +21,7 @@ from agent.filters.lines import Answer, Talk, line_of
 from agent.transport.needs import Needs
 from agent.folders.places import Places
 from agent.folders.shared import SharedFolders
+from agent.runs.merged import MergedFolders
 from agent.store.folder import ChunksMissing, Store
 from agent.tools import LOOK
 from agent.transport.local import COORDINATOR, Transport, address_of, node_address
@@ -64,6 +65,7 @@ class NodeAgent:
         os.makedirs(self.home, exist_ok=True)
         self.hints = Hints(setup.key)
         self.executions = Executions(self.home, self.log)
+        self.unleased = Executions(self.home, name="unleased")  # of commands that no life of the node matters to
         self.places = Places(self.home)
         self.changed = threading.Condition()
         self.events = 0
@@ -78,11 +80,18 @@ class NodeAgent:
         self.learned: dict[int, dict[str, tuple[int, str]]] = {}  # of a ticket: the versions of its commit
         self.needs = Needs()
         self.shared = SharedFolders(self)
+        self.merged = MergedFolders(self)
         words = ["node", "--node", str(node), "--nodes", str(nodes), "--store", f"{self.home}/filter", "--key", setup.key]
-        self.talk = Talk(f"node {node}", [setup.program, *words], self.executions.all_over, self.hear)
+        self.talk = Talk(f"node {node}", [setup.program, *words], self.all_over, self.hear)
 
     def log(self, text: str) -> None:
         self.setup.log(f"node {self.node}: {text}")
+
+    def all_over(self) -> None:
+        """Ends the executions of a life, before the first one those of earlier agents too that had no lease."""
+        self.executions.all_over()
+        if not self.talk.epoch:
+            self.unleased.all_over()
 
     def call(self, line: str, epoch: int | None = None) -> Answer:
         present = self.talk.epoch
@@ -183,6 +192,8 @@ class NodeAgent:
             self.holders[int(words[2])] = " ".join(words[3:])
         elif words[0] == "needed" and int(words[1]) == self.node:
             self.needs.take(words[2:])
+        elif words[0] == "lastis" and int(words[1]) == self.node:
+            return self.merged.hear(words[2:])
         elif words[0] == "gone" and int(words[1]) == self.node:
             self.retired = True
         elif words[0] == "outdated" and int(words[1]) == self.node and int(words[2]) > self.life:
@@ -310,7 +321,7 @@ class NodeAgent:
         if note != f"begun {ticket}":
             raise FarmFault(f"it can't begin: {note.removeprefix('refused ')}")
 
-    def ending(self, ask: int, ticket: int, epoch: int, caller: Caller | None) -> Ending:
+    def ending(self, ask: int, ticket: int, epoch: int, caller: Caller | None, patience: Patience | None = None) -> Ending:
         """Waits for what came of a commit. Its versions are in the note that it came with, which another thread may be about to hear."""
         words: list[str] = []
         late = 0.0
@@ -324,8 +335,8 @@ class NodeAgent:
             return words[0] in ("committed", "fenced", "released", "none")
 
         try:
-            self.wait(epoch, Patience(caller, None, unheard=f"waiting for the commit of {ticket}: {UNHEARD}"), is_over)
-        except ClientGone:
+            self.wait(epoch, patience or Patience(caller, None, unheard=f"waiting for the commit of {ticket}: {UNHEARD}"), is_over)
+        except (ClientGone, WaitOver):
             threading.Thread(target=self._resend_until, args=(epoch, is_over), daemon=True).start()
             raise
         if words[0] != "committed":
@@ -398,4 +409,5 @@ class NodeAgent:
         self.talk.stopped = True
         with self.talk.birth:  # no command starts between the two
             self.executions.all_over()
+            self.unleased.all_over()
             self.talk.stop()

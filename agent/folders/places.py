@@ -6,6 +6,7 @@ once. Nothing is replaced that isn't a folder which the farm itself put there.
 from __future__ import annotations
 
 import contextlib
+import errno
 import fcntl
 import hashlib
 import json
@@ -20,11 +21,15 @@ import threading
 import time
 from typing import Any, Callable, Iterator
 
-from agent.folders import trees
+from agent.folders import index, trees
 from agent.folders.claims import claim
 from agent.faults import FarmFault, UsageFault, named
-from agent.folders.standing import identity, signature
+from agent.folders.held import Held
+from agent.folders.standing import identity
+from agent.folders.versions import REMEMBERED, Version, Versions, none
+from agent.store.chunks import is_kept
 from agent.store.folder import NEW, Store, put_file
+from agent.store.packing import ChunkSpoilt
 from agent.folders.trees import is_folder
 from agent.words import short_name
 
@@ -52,10 +57,7 @@ class Trash:
 
     def take(self, path: str) -> None:
         """Takes a folder away from its path. What is mounted within it isn't its own, and would be removed with it."""
-        whole = os.path.realpath(path)
-        for mounted in mounts():
-            if mounted != whole and is_within(mounted, whole):
-                raise FarmFault(f"{mounted} is mounted within {path}: unmount it first")
+        refuse_mounts(path)
         room = tempfile.mkdtemp(dir=self.home)
         try:
             os.rename(path, f"{room}/old")
@@ -154,6 +156,8 @@ class Places:
         self.trash = Trash(home)
         self.rooms = Rooms(home, self.trash)
         self.locks: dict[str, list[int]] = {}  # of a path that is held: the descriptors that hold it
+        self.versions = Versions()
+        self.known: dict[str, Held] = {}  # of paths: what they held when they were looked at last; who holds a path has it
 
     def sweep(self) -> None:
         """Removes what an agent of this node left that was killed. None is there any more."""
@@ -180,25 +184,26 @@ class Places:
             self.locks.pop(path, None)
             TAKEN.free(path)
 
-    def _known(self, path: str) -> str:
-        return f"{self.home}/{short_name(path, 'path')}.json"
+    def _place(self, path: str) -> str:
+        return f"{self.home}/{short_name(path, 'path')}"
 
     def _read(self, path: str) -> list[Any]:
-        """What is known of a path: itself, the folder's device and identity, and the version that it holds with its signature."""
-        return _list_of(self._known(path))
+        """What is known of a path: itself, the folder's device and identity, and the version that it held when it was looked at."""
+        return _list_of(f"{self._place(path)}.json")
 
-    def _note(self, path: str, digest: str | None, mark: str | None) -> None:
-        put_file(self._known(path), json.dumps([path, os.lstat(path).st_dev, identity(path), digest, mark]).encode())
+    def _note(self, path: str, digest: str | None) -> None:
+        put_file(f"{self._place(path)}.json", json.dumps([path, os.lstat(path).st_dev, identity(path), digest]).encode())
 
     def _is_ours(self, path: str) -> bool:
         return self._read(path)[:3] == [path, os.lstat(path).st_dev, identity(path)]
 
-    def _standing(self, path: str) -> str | None:
-        """The digest of the version that a path still holds."""
-        known = self._read(path)
-        if len(known) < 5 or None in known or not is_folder(path) or not self._is_ours(path):
-            return None
-        return str(known[3]) if signature(path) == known[4] else None
+    def _held(self, path: str) -> Held:
+        """What is known of what a path holds."""
+        found = self.known.pop(path, None) or Held(path, f"{self._place(path)}.marks")
+        self.known[path] = found
+        while len(self.known) > 1 and sum(len(held.entries) for held in list(self.known.values())) > REMEMBERED:
+            self.known.pop(next(iter(self.known)), None)
+        return found
 
     def clear(self, path: str) -> None:
         """Makes an empty folder at a path that is held."""
@@ -210,18 +215,27 @@ class Places:
                     raise FarmFault(f"{path} is there, and wasn't made by this node: name a path that is free")
                 self.trash.take(path)
         os.makedirs(path, exist_ok=True)
-        self._note(path, None, None)
+        self.known.pop(path, None)
+        self._note(path, None)
 
     def forget(self, path: str) -> None:
         """Nobody uses the path any more, or will."""
-        with contextlib.suppress(FileNotFoundError):
-            os.unlink(self._known(path))
+        self.known.pop(path, None)
+        for kind in ("json", "marks"):
+            with contextlib.suppress(FileNotFoundError):
+                os.unlink(f"{self._place(path)}.{kind}")
+
+    def _paths(self) -> Iterator[tuple[str, int]]:
+        """The paths of which something is known, with the devices on which they lie."""
+        for name in os.listdir(self.home):
+            known = _list_of(f"{self.home}/{name}") if name.endswith(".json") else []
+            if known:
+                yield str(known[0]), int(known[1])
 
     def forget_gone(self) -> None:
         """Forgets the paths at which nothing is any more, though their file systems are there: jobs may each have a path of their own."""
-        for name in os.listdir(self.home):
-            path, device = [*_list_of(f"{self.home}/{name}"), "", 0][:2]
-            if path and TAKEN.take(path):  # no command has it
+        for path, device in self._paths():
+            if TAKEN.take(path):  # no command has it
                 try:
                     if not os.path.lexists(path) and _device_of(path) == device:
                         self.forget(path)
@@ -230,31 +244,82 @@ class Places:
 
     def forget_within(self, folder: str) -> None:
         """Nobody uses any path within a folder any more, or will."""
-        for name in os.listdir(self.home):
-            known = _list_of(f"{self.home}/{name}")
-            if known and is_within(str(known[0]), os.path.realpath(folder)):
-                self.forget(str(known[0]))
+        for path, _ in self._paths():
+            if is_within(path, os.path.realpath(folder)):
+                self.forget(path)
 
-    def fill(self, store: Store, index: bytes, path: str, check: Callable[[], None] = lambda: None) -> None:
-        """Makes a path that is held what an index says, as long as `check` finds that somebody waits. Where it still is that nothing is done."""
-        digest = hashlib.sha256(index).hexdigest()
-        if index and self._standing(path) == digest:
+    def fill(self, store: Store, content: bytes, path: str, check: Callable[[], None] = lambda: None) -> None:
+        """Makes a path that is held what an index says, as long as `check` finds that somebody waits: of a folder of ours only what differs
+        is written."""
+        if content and self._brought(store, content, path, check):
             return
         self.clear(path)
         try:
             with self.rooms.room() as room:
-                trees.extract(store, index, path, self.locks.get(path, ()), check, room)
+                trees.extract(store, content, path, self.locks.get(path, ()), check, room)
         except BaseException:
             with contextlib.suppress(FarmFault, OSError):
                 self.clear(path)  # half a folder is of no use, and may take the room that was missing
             raise
-        self._note(path, digest, signature(path) if index else None)
+        if content:
+            held = self._held(path)
+            held.take_as(self._version(store, content, check).listing)
+            self._keep_known(held, path, hashlib.sha256(content).hexdigest())
+
+    def _version(self, store: Store, content: bytes, check: Callable[[], None]) -> Version:
+        try:
+            return self.versions.of(store.chunks, content, check)
+        except ChunkSpoilt as fault:
+            raise trees.NotMade(str(fault)) from None
+
+    def _brought(self, store: Store, content: bytes, path: str, check: Callable[[], None]) -> bool:
+        """Makes a folder of ours that stands what an index says by writing only what differs. Whether it could."""
+        if not is_folder(path) or not self._is_ours(path):
+            return False
+        held = self._held(path)
+        if not held.entries:
+            return False
+        refuse_mounts(path)
+        store.fetch(content)
+        stood = self._stood(store, path, held)
+        version = self._version(store, content, check)
+        try:
+            is_changed = held.look(check)
+            if not is_changed and stood is not None and stood.digest == version.digest and not held.odd:
+                return True
+            self._note(path, None)
+            reader = version.reader()
+            held.bring(version.listing, lambda name: version.pieces(name, reader), check)
+        except (OSError, RecursionError) as fault:  # as where a user who isn't root may not write: it is made anew
+            if isinstance(fault, OSError) and fault.errno == errno.ENOSPC:
+                raise
+            return False
+        except ChunkSpoilt as fault:
+            raise trees.NotMade(str(fault)) from None
+        self._keep_known(held, path, version.digest)
+        return True
+
+    def _stood(self, store: Store, path: str, held: Held) -> Version | None:
+        """The version that a path held when it was looked at last."""
+        digest = (self._read(path) + [None])[3] if self._is_ours(path) else None
+        found = self.versions.find(str(digest))
+        content = store.index(str(digest)) if digest and not found and held.entries else None
+        if content:
+            found = Version(store.chunks, content, held.entries)
+            self.versions.add(found)
+        return found
+
+    def _keep_known(self, held: Held, path: str, digest: str) -> None:
+        held.settle()
+        held.save()
+        self._note(path, digest)
 
     def left(self, path: str) -> None:
         """The command that had the path is over: a folder that it put there in place of the old one is the farm's too."""
         with contextlib.suppress(OSError):
             if is_folder(path) and not self._is_ours(path):
-                self._note(path, None, None)
+                self.known.pop(path, None)
+                self._note(path, None)
 
     def keep(
         self, store: Store, path: str, away: Callable[[str], None] = lambda why: None, check: Callable[[], None] = lambda: None
@@ -264,19 +329,25 @@ class Places:
         if not is_folder(path):
             raise FarmFault(f"{path} is no folder any more, and nothing of it is kept")
         with store.making():
-            digest = self._standing(path)
-            index = store.index(digest) if digest else None
-            if index:
+            held = self._held(path)
+            stood = self._stood(store, path, held)
+            is_changed = held.look(check)
+            if stood and not is_changed:
                 with contextlib.suppress(FarmFault):  # a chunk is gone: it is made anew
-                    return index, store.publish(index, away)
-            self._note(path, None, None)
-            before = signature(path)
-            with self.rooms.room() as room:
-                index = trees.make(store, path, room, check)
-            digest = store.publish(index, away)
-            after = signature(path)
-            self._note(path, digest, after if after == before else None)
-            return index, digest
+                    return stood.index, store.publish(stood.index, away)
+                stood = None
+            self._note(path, None)
+            version = index.make(held, stood or none(store.chunks), store.chunks, check)
+            try:
+                digest = store.publish(version.index, away)
+            except FarmFault:
+                if not stood or all(is_kept(store.chunks, name) for name in version.names):
+                    raise
+                version = index.make(held, none(store.chunks), store.chunks, check)
+                digest = store.publish(version.index, away)
+            self.versions.add(version)
+            self._keep_known(held, path, digest)
+            return version.index, digest
 
 
 def _device_of(path: str) -> int:
@@ -301,6 +372,14 @@ def mounts() -> list[str]:
     with open("/proc/self/mountinfo", "rb") as file:
         words = [line.split(b" ")[4] for line in file]
     return [os.fsdecode(re.sub(rb"\\([0-7]{3})", lambda found: bytes([int(found[1], 8)]), word)) for word in words]
+
+
+def refuse_mounts(path: str) -> None:
+    """Refuses a folder within which something is mounted: it isn't the folder's own, and would be changed with it."""
+    whole = os.path.realpath(path)
+    for mounted in mounts():
+        if mounted != whole and is_within(mounted, whole):
+            raise FarmFault(f"{mounted} is mounted within {path}: unmount it first")
 
 
 def is_within(path: str, other: str) -> bool:

@@ -1,31 +1,23 @@
-"""A folder as a casync index, and back.
+"""A folder of a casync index; and what removes folders.
 
-Owes the filters that the same folder gives the same content, and that a content gives back the folder: names, bytes, modes, owners,
-times, links and pipes. Hard links become files of their own; extended attributes, device nodes and sockets are left out; what couldn't
-be brought back is refused. That it lasts is the store's business.
+Owes the filters that a content gives back the folder that it was made of: names, bytes, modes, owners, times, links and pipes.
 """
 from __future__ import annotations
 
 import contextlib
 import os
 import shutil
-import stat
 import subprocess
 import tempfile
-from typing import Callable, Iterator, Sequence
+from typing import Callable, Sequence
 
-from agent.store.chunks import chunk_names, chunk_path, is_whole
 from agent.faults import FarmFault
+from agent.folders.layout import EXCLUDE, is_exclude
 from agent.store.folder import Store
 from agent.tools import need, whole, why
 
 # What an index keeps of a file. A `--without=all` beside these would undo them, wherever it stood.
 FEATURES = ("--with=permissions", "--with=symlinks", "--with=nsec-time", "--with=32bit-uids", "--with=fifos")
-WHOLE = "--exclude-nodump=no"  # else it leaves out the files that have the attribute `d`
-# It also leaves out what a file of this name lists, and no option changes that: in an index each such file has a `%` more.
-EXCLUDE = ".caexclude"
-LONGEST = 237  # bytes of the name of what is no folder: it is made under a name that is longer
-DEEPEST = 63  # names from a folder down to what it holds: casync goes no deeper
 
 
 class NotMade(FarmFault):
@@ -42,82 +34,15 @@ def _casync(*words: str, keeps: Sequence[int] = (), check: Callable[[], None] = 
         raise kind(f"casync {words[0]} {words[-1]}: {why(done)}")
 
 
-def _excludes(path: str) -> Iterator[tuple[str, list[str]]]:
-    """The folders with files whose name is `.caexclude` and any number of `%`, and these names."""
-    for folder, folders, files in os.walk(path, topdown=False):
-        found = [name for name in (*folders, *files) if name.startswith(EXCLUDE) and not name[len(EXCLUDE) :].strip("%")]
-        if found:
-            yield folder, found
-
-
-def _rename(folder: str, pairs: list[tuple[str, str]]) -> None:
-    times = os.stat(folder)
-    for old, new in pairs:
-        os.rename(f"{folder}/{old}", f"{folder}/{new}")
-    os.utime(folder, ns=(times.st_atime_ns, times.st_mtime_ns))
-
-
-def _hide_excludes(path: str) -> bool:
-    """Gives each such name a `%` more. Whether there was one."""
-    hidden = False
-    for folder, names in _excludes(path):
-        _rename(folder, [(name, f"{name}%") for name in sorted(names, key=len, reverse=True)])
-        hidden = True
-    return hidden
-
-
 def _show_excludes(path: str) -> None:
-    """Takes a `%` off each such name that has one."""
-    for folder, names in _excludes(path):
-        _rename(folder, [(name, name[:-1]) for name in sorted(names, key=len) if name != EXCLUDE])
-
-
-def _check(path: str) -> None:
-    """Refuses what casync would keep and not bring back, or would refuse without its name."""
-    deepest = path.count("/") + DEEPEST
-    for folder, folders, files in os.walk(path):
-        if folder.count("/") == deepest and (folders or files):
-            raise FarmFault(f"{path} can't be kept: it goes more than {DEEPEST} names deep")
-        for name in ("", *folders, *files):
-            whole = f"{folder}/{name}"
-            here = os.lstat(whole)
-            if stat.S_IFMT(here.st_mode) in (stat.S_IFREG, stat.S_IFDIR) and not os.access(whole, os.R_OK):
-                raise FarmFault(f"{whole} can't be kept: the agent may not read it")
-            if here.st_mtime_ns < 0:
-                raise FarmFault(f"{whole} can't be kept: its time is before 1970")
-            if len(os.fsencode(name)) > LONGEST and not stat.S_ISDIR(here.st_mode):
-                raise FarmFault(f"{whole} can't be kept: its name has more than {LONGEST} bytes")
-
-
-def _make(store: Store, path: str, beside: str | None, check: Callable[[], None]) -> bytes:
-    with tempfile.TemporaryDirectory(dir=beside) as room:
-        _casync("make", f"--store={store.chunks}", *FEATURES, WHOLE, f"{room}/made.caidx", path, check=check)
-        with open(f"{room}/made.caidx", "rb") as file:
-            return file.read()
-
-
-def _drop_hollow(store: Store, index: bytes) -> bool:
-    """Removes the chunks of an index that have no bytes or were cut short, which casync takes for chunks that are there. Whether there was
-    one."""
-    hollow = [name for name in chunk_names(index) if not is_whole(store.chunks, name)]
-    for name in hollow:
-        with contextlib.suppress(FileNotFoundError):
-            os.unlink(chunk_path(store.chunks, name))
-    return bool(hollow)
-
-
-def make(store: Store, path: str, beside: str | None = None, check: Callable[[], None] = lambda: None) -> bytes:
-    """The index of a folder, whose chunks are in the store's folder then. Hold `store.making` from before it until the index is
-    published. What isn't kept lies in the folder `beside`, else where the system has such files. Where `check` finds that nobody waits for
-    it any more it ends."""
-    _check(path)
-    hidden = _hide_excludes(path)
-    try:
-        index = _make(store, path, beside, check)
-        return _make(store, path, beside, check) if _drop_hollow(store, index) else index
-    finally:
-        if hidden:
-            _show_excludes(path)
+    """Takes a `%` off each name that has one more in an archive."""
+    for folder, folders, files in os.walk(path, topdown=False):
+        found = [name for name in (*folders, *files) if is_exclude(name) and name != EXCLUDE]
+        if found:
+            times = os.stat(folder)
+            for name in sorted(found, key=len):
+                os.rename(f"{folder}/{name}", f"{folder}/{name[:-1]}")
+            os.utime(folder, ns=(times.st_atime_ns, times.st_mtime_ns))
 
 
 def extract(

@@ -117,9 +117,9 @@ class Execution:
 class Executions:
     """The executions of a node."""
 
-    def __init__(self, home: str, log: Callable[[str], None] = lambda text: None) -> None:
+    def __init__(self, home: str, log: Callable[[str], None] = lambda text: None, name: str = "executions") -> None:
         self.log = log
-        self.lock_path = f"{home}/executions"
+        self.lock_path = f"{home}/{name}"
         self.lock = threading.Lock()
         self.running: set[Execution] = set()
         self.has_namespaces = can_have_namespaces()

@@ -13,7 +13,8 @@ from typing import Callable
 
 from agent.runs.caller import Caller, Patience
 from agent.runs.executions import Execution
-from agent.faults import ClientGone, FarmFault, LifeOver, NodeRetired, UsageFault
+from agent.runs.merged import TARGETS, Counted, InConflict, Own
+from agent.faults import LOST, ClientGone, FarmFault, LifeOver, NodeRetired, UsageFault, WaitOver
 from agent.filters.lines import line_of
 from agent.filters.node import Ending, NodeAgent
 from agent.folders.places import check_apart, path_order, place_of
@@ -39,8 +40,10 @@ class Job:
     lost_status: int | None = None
     of_shared: str = ""  # what is said where it waits for a SHARED folder
     filled: Callable[[Want, str, bool], None] = field(default=lambda want, path, is_new: None)
-    left: Callable[[], None] = field(default=lambda: None)
+    left: Callable[[Want, str], None] = field(default=lambda want, path: None)
     umask: int | None = None
+    on_conflict: str = "newer"  # whose a path is that a merged folder's others changed too
+    tells_conflicts: bool = False  # each by its path
 
 
 class Run:
@@ -54,9 +57,14 @@ class Run:
         self.patience = Patience(caller, job.wait, job.of_shared)
         self.stopped = False  # because its lease had ended
         self.how = "lost"  # what came of it: `failed`, `committed`, `released`, `fenced`
+        self.leased = [want for want in job.wants if not want.is_merged]
+        self.merged = sorted((want for want in job.wants if want.is_merged), key=lambda want: want.folder)
+        self.owns: dict[str, Own] = {}  # the command's copies of merged folders
+        self.counts = False  # whether what it left in the folders of its lease counts
         self.paths = {want.folder: place_of(want.path, job.cwd) for want in job.wants}
         check_apart(list(self.paths.values()))
-        if len(self.paths) < len(job.wants):
+        lines = {want.folder.replace("merged:", "locked:", 1) if want.is_merged else want.folder for want in job.wants}
+        if len(lines) < len(job.wants):
             raise UsageFault("a folder is named twice")
         if len(self.paths) > MOST_FOLDERS:
             raise UsageFault(f"{len(self.paths)} folders: one lease has at most {MOST_FOLDERS}")
@@ -64,6 +72,8 @@ class Run:
     def run(self) -> int:
         if any(want.is_shared for want in self.job.wants) and not self.agent.executions.has_namespaces:
             raise FarmFault("SHARED folders are bound in a mount namespace, and the kernel lets this agent have none: run it as root")
+        if self.merged and not self.agent.executions.has_namespaces:
+            raise FarmFault("merged folders are bound in a mount namespace, and the kernel lets this agent have none: run it as root")
         if self.job.wants:
             need("casync")  # else all that the command does would be lost
         while True:
@@ -83,12 +93,71 @@ class Run:
 
     def _try(self) -> int | None:
         """One run. None where a SHARED folder was recalled before the ask: then all is to be done again."""
+        try:
+            for want in self.merged:
+                self.owns[want.folder] = self._enter_merged(want)
+            status = self._try_leased() if self.leased or not self.merged else self._run_unleased()
+            return self._merge(status) if status is not None and self.counts else status
+        finally:
+            for own in self.owns.values():
+                self.agent.merged.leave(own)
+            self.owns = {}
+
+    def _enter_merged(self, want: Want) -> Own:
+        def prepare(path: str, is_new: bool) -> None:
+            self.job.filled(want, path, is_new)
+
+        return self.agent.merged.enter(want, self.patience, prepare)
+
+    def _run_unleased(self) -> int:
+        """Runs a command all of whose folders are merged."""
+        with contextlib.ExitStack() as held:
+            self._hold_paths(held)
+            status = self._command(None, {}, self._merged_binds())
+        self._left()
+        self.counts = not status or self.job.keeps_failed
+        self.how = "committed" if self.counts else "failed"
+        if not self.counts:
+            self.caller.say("the command failed, and nothing of it is kept")
+        return status
+
+    def _merge(self, status: int) -> int:
+        """Merges what the command left. What isn't committed while somebody waits is left to the agent."""
+        lost = 0
+        for want in self.merged:
+            own = self.owns[want.folder]
+            try:
+                if want.writable:
+                    self._tell_merged(own, self.agent.merged.commit(own, self.job.on_conflict, Patience(self.caller, self.job.wait)))
+            except (WaitOver, ClientGone) as fault:
+                self.agent.merged.leave_commit(self.owns.pop(want.folder), self.job.on_conflict)
+                self.caller.say(f"{own.slot}: what the command left isn't committed yet: the agent goes on with that, and farm log shows it")
+                lost = LOST if isinstance(fault, ClientGone) else lost or self.job.lost_status or 0
+            except InConflict as fault:
+                self.caller.say(str(fault))
+                lost = LOST
+            except LifeOver:
+                self.caller.say(f"lost {own.slot}: what the command left isn't known to count")
+                raise
+        return status or lost
+
+    def _tell_merged(self, own: Own, counted: Counted) -> None:
+        self.caller.say(counted.said)
+        for path in sorted(own.conflicts) if self.job.tells_conflicts else ():
+            self.caller.say(f"conflict {own.slot} {path}")
+        for path in self.agent.merged.databases(own):
+            self.caller.say(
+                f"warning: {path} of {own.slot} is a database of SQLite that others changed too, and what they wrote there is lost: use "
+                f"{own.slot} as a locked folder"
+            )
+
+    def _try_leased(self) -> int | None:
         tenures: dict[str, Tenure] = {}
         ends: list[Closed] = []
         try:
             for want in sorted((w for w in self.job.wants if w.is_shared), key=lambda w: w.folder):
                 tenures[want.folder] = self._enter(want)  # by rising name: no two nodes wait for each other
-            ask = self.agent.asked(line_of("ask", *(want.word for want in self.job.wants)), self.epoch)
+            ask = self.agent.asked(line_of("ask", *(want.word for want in self.leased)), self.epoch)
             self.agent.shared.have_asked(tenures.values())
             status = None if ask is None else self._run_asked(ask, tenures)
         finally:
@@ -106,7 +175,7 @@ class Run:
         return self.agent.shared.enter(want.folder, self.epoch, self.patience, prepare)
 
     def _run_asked(self, ask: int, tenures: dict[str, Tenure]) -> int:
-        folders = [want.folder for want in self.job.wants]
+        folders = [want.folder for want in self.leased]
         grant = self.agent.granted(ask, folders, self.epoch, self.patience)
         try:
             with contextlib.ExitStack() as held:
@@ -136,10 +205,9 @@ class Run:
         agent = self.agent
         agent.begin(grant.ticket, self.epoch, self.patience)
         slots = {slot.folder: slot for slot in grant.slots}
-        binds = []
-        for path in sorted(self.paths.values(), key=path_order):  # no two runs wait for each other's paths
-            held.enter_context(agent.places.held(path, self._waits_for(path)))
-        for want in self.job.wants:
+        binds = self._merged_binds()
+        self._hold_paths(held)
+        for want in self.leased:
             path = self.paths[want.folder]
             if want.is_shared:
                 agent.places.clear(path)
@@ -149,13 +217,28 @@ class Run:
         try:
             status = self._command(grant, tenures, binds)
         finally:
-            for want in self.job.wants:
+            for want in self.leased:
                 if not want.is_shared:
                     agent.places.left(self.paths[want.folder])
-        self.job.left()
+        self._left()
         if status and not self.job.keeps_failed:
             return status, []
         return status, [(slot.name, held.enter_context(self._kept(slot))) for slot in grant.slots if slot.writable]
+
+    def _merged_binds(self) -> list[tuple[str, str, bool]]:
+        return [(self.owns[want.folder].held.path, self.paths[want.folder], want.writable) for want in self.merged]
+
+    def _hold_paths(self, held: contextlib.ExitStack) -> None:
+        """Takes the command's paths, in an order in which no two runs wait for each other's."""
+        merged = {self.paths[want.folder] for want in self.merged}
+        for path in sorted(self.paths.values(), key=path_order):
+            check = self._waits_for(path)
+            places = self.agent.places
+            held.enter_context(TARGETS.held(places, path, check) if path in merged else places.held(path, check))
+
+    def _left(self) -> None:
+        for want in self.job.wants:
+            self.job.left(want, self.owns[want.folder].held.path if want.is_merged else self.paths[want.folder])
 
     def _waits_for(self, path: str) -> Callable[[], None]:
         def check() -> None:
@@ -178,42 +261,45 @@ class Run:
 
         return self.agent.places.rooms.file(self.agent.places.keep(self.agent.store, self.paths[slot.folder], away, patience.check)[0])
 
-    def _command(self, grant: Grant, tenures: dict[str, Tenure], binds: list[tuple[str, str, bool]]) -> int:
+    def _command(self, grant: Grant | None, tenures: dict[str, Tenure], binds: list[tuple[str, str, bool]]) -> int:
         agent, job = self.agent, self.job
+        executions = agent.executions if grant else agent.unleased  # no life of the node matters to a command without a lease
         if not agent.executions.has_namespaces:
             self.caller.say("the kernel gives this agent no pid namespace: what leaves the command's session can outlive it")
         with agent.talk.birth:  # no life begins between the look and the start
-            if self.epoch != agent.talk.epoch or agent.talk.stopped:
+            if grant and self.epoch != agent.talk.epoch or agent.talk.stopped:
                 raise LifeOver("the node began a new life, or ends")
             if self.caller.gone:
                 raise ClientGone("nobody waits for it any more")
             self.begun = True
             for tenure in tenures.values():
                 tenure.used = True
-            execution = agent.executions.start(job.command, job.cwd, job.env, self.caller.streams, binds, job.umask)
+            execution = executions.start(job.command, job.cwd, job.env, self.caller.streams, binds, job.umask)
         self.caller.signalled = execution.signal
-        agent.running.add(grant.ticket)
+        if grant:
+            agent.running.add(grant.ticket)
         try:
             return self._watch(grant, execution)
         finally:
-            agent.running.discard(grant.ticket)
+            if grant:
+                agent.running.discard(grant.ticket)
             self.caller.signalled = None
             execution.end()
-            agent.executions.over(execution)
+            executions.over(execution)
 
-    def _watch(self, grant: Grant, execution: Execution) -> int:
+    def _watch(self, grant: Grant | None, execution: Execution) -> int:
         """Waits for the command, and ends it where nobody waits for it, or its lease is lost and it is to stop then."""
         stopped: float | None = None
         told = False
         while True:
             status = execution.wait(LOOK)
-            if self.epoch != self.agent.talk.epoch or execution.was_ended and stopped is None:
+            if grant and self.epoch != self.agent.talk.epoch or execution.was_ended and stopped is None:
                 raise LifeOver("the node began a new life, or ends")
             if status is not None:
                 return status
             if self.caller.gone:
                 raise ClientGone("nobody waits for it any more")
-            if grant.ticket in self.agent.ended and not told:
+            if grant and grant.ticket in self.agent.ended and not told:
                 told = True
                 own = ", ".join(slot.name for slot in grant.slots if slot.writable)  # a SHARED folder's tenure has its own lease
                 uncounted = f": what the command leaves in {own} won't count" if own else ""
@@ -234,5 +320,6 @@ class Run:
         if ending.how != "committed" and had_news:
             self.caller.say(f"{ending.how} {grant.ticket}: what the command left doesn't count")
             return status or self.job.lost_status or 0
+        self.counts = True
         return status
 

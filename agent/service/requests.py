@@ -26,6 +26,8 @@ class RunRequest(NamedTuple):
     wait: float | None = None  # seconds for the lease
     must_commit: bool = False
     stops_when_lost: bool = False
+    on_conflict: str = "newer"
+    tells_conflicts: bool = False
 
 
 class BuildRequest(NamedTuple):
@@ -44,6 +46,8 @@ class BuildRequest(NamedTuple):
     shared_as: str = "shared"
     keep_failed: bool = False
     tag_fenced: bool = False
+    on_conflict: str = "newer"
+    tells_conflicts: bool = False
 
 
 class ForgetRequest(NamedTuple):

@@ -64,7 +64,7 @@ class Served:
 
     def is_busy(self) -> bool:
         """Whether somebody waits for something here, or a folder is open that has to be closed yet."""
-        return any(service.busy for service in self.services) or any(node.shared.tenures for node in self.nodes)
+        return any(service.busy for service in self.services) or any(node.shared.tenures or node.merged.waiting for node in self.nodes)
 
     def stop(self) -> None:
         for service in self.services:
@@ -268,6 +268,7 @@ def run_of(agent: NodeAgent, wanted: Wanted, request: RunRequest, link: Connecti
     job = Job(
         command=list(request.command), cwd=request.cwd, env=request.env, wants=[want_of(word) for word in request.folders],
         wait=request.wait, stops_when_lost=request.stops_when_lost, fenced_status=uncounted, lost_status=uncounted, umask=request.umask,
+        on_conflict=request.on_conflict, tells_conflicts=request.tells_conflicts,
     )
     run = Run(agent, job, link)
     for path in run.paths.values():

@@ -32,9 +32,10 @@ class Store(Protocol):
     def making(self) -> contextlib.AbstractContextManager[None]:
         """As long as it is held, nothing is forgotten."""
 
-    def publish(self, index: bytes, away: Callable[[str], None] = lambda why: None) -> str:
+    def publish(self, index: bytes, away: Callable[[str], None] = lambda why: None, base: bytes = b"") -> str:
         """Keeps an index whose chunks are in the folder, and gives its digest. All of it lasts then. Why it isn't so yet `away` hears now and
-        then, while a store that other machines share can't be reached."""
+        then, while a store that other machines share can't be reached. What the index of a version that isn't forgotten meanwhile has,
+        the `base`, is there: it isn't looked for."""
 
     def index(self, digest: str) -> bytes | None:
         """The index of a digest; none where it isn't here."""
@@ -68,8 +69,8 @@ def is_old(path: str, oldest: float) -> bool:
         return False  # it has its whole name now, or somebody else forgot it
 
 
-def put_file(path: str, data: bytes) -> None:
-    """A file that lasts, whole or not at all: written beside, synced, renamed, and its folder synced."""
+def put_file(path: str, data: bytes, is_synced: bool = True) -> None:
+    """A file that lasts, whole or not at all: written beside, synced, renamed, and its folder synced; or else synced with others."""
     folder = os.path.dirname(path)
     os.makedirs(folder, exist_ok=True)
     handle, beside = tempfile.mkstemp(prefix=NEW, dir=folder)
@@ -78,16 +79,25 @@ def put_file(path: str, data: bytes) -> None:
             with os.fdopen(handle, "wb") as file:
                 file.write(data)
                 file.flush()
-                os.fsync(file.fileno())
+                if is_synced:
+                    os.fsync(file.fileno())
         os.rename(beside, path)
     except BaseException:
         os.unlink(beside)
         raise
+    if not is_synced:
+        return
     held = os.open(folder, os.O_RDONLY | os.O_DIRECTORY)
     try:
         os.fsync(held)
     finally:
         os.close(held)
+
+
+def new_names(index: bytes, base: bytes) -> list[str]:
+    """The chunks of an index that another one hasn't, in order."""
+    known = set(chunk_names(base))
+    return [name for name in chunk_names(index) if name not in known]
 
 
 class FolderStore:
@@ -110,9 +120,9 @@ class FolderStore:
     def making(self) -> contextlib.AbstractContextManager[None]:
         return self._locked(fcntl.LOCK_SH)
 
-    def publish(self, index: bytes, away: Callable[[str], None] = lambda why: None) -> str:
+    def publish(self, index: bytes, away: Callable[[str], None] = lambda why: None, base: bytes = b"") -> str:
         digest = hashlib.sha256(index).hexdigest()
-        for name in chunk_names(index):
+        for name in new_names(index, base):
             try:
                 os.utime(chunk_path(self.chunks, name))  # what is fresh isn't forgotten
             except FileNotFoundError:

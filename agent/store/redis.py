@@ -16,7 +16,7 @@ from typing import Callable
 from agent.store.chunks import chunk_names, chunk_path, is_kept
 from agent.faults import FarmFault
 from agent.transport.redis_wire import Redis, RedisAway, RedisFault, Word
-from agent.store.folder import ChunksMissing, FolderStore, put_file
+from agent.store.folder import ChunksMissing, FolderStore, new_names, put_file, sync_all
 
 AT_ONCE = 64  # chunks of one request
 AWAY = 120.0  # seconds for which a server that is away is tried again: what a command made would be lost
@@ -61,9 +61,9 @@ class RedisStore:
     def _seal(self, name: str, data: bytes) -> bytes:
         return hmac.new(self.key, name.encode() + data, hashlib.sha256).digest()
 
-    def publish(self, index: bytes, away: Callable[[str], None] = lambda why: None) -> str:
-        digest = self.folder.publish(index)
-        self._send(digest, index, away)
+    def publish(self, index: bytes, away: Callable[[str], None] = lambda why: None, base: bytes = b"") -> str:
+        digest = self.folder.publish(index, base=base)
+        self._send(digest, index, away, base)
         return digest
 
     def mend(self, index: bytes) -> bool:
@@ -81,10 +81,10 @@ class RedisStore:
             return False
         return True
 
-    def _send(self, digest: str, index: bytes, away: Callable[[str], None] | None = None) -> None:
+    def _send(self, digest: str, index: bytes, away: Callable[[str], None] | None = None, base: bytes = b"") -> None:
         """Begins again after each fault, since a server that was away may have lost what it took. That it gets further renews its time. Where
         nobody hears that it is away all is sent, and once."""
-        names, patience, anew = chunk_names(index), AWAY if away else 0.0, away is None
+        names, patience, anew = new_names(index, base), AWAY if away else 0.0, away is None
         furthest, end = 0, time.monotonic() + patience
         while True:
             try:
@@ -132,6 +132,8 @@ class RedisStore:
                     bad += not self._take(name, sealed)
         except RedisFault as fault:
             raise ChunksMissing(f"the store over Redis gave no contents: {fault}") from None
+        if missing:
+            sync_all(self.chunks)
         if bad:
             raise ChunksMissing(f"{bad} chunks of a version are neither here nor, as they were sent, in the store over Redis")
         path = f"{self.folder.indexes}/{hashlib.sha256(index).hexdigest()}"
@@ -139,10 +141,10 @@ class RedisStore:
             put_file(path, index)  # all of it is here: this machine can offer it
 
     def _take(self, name: str, sealed: object) -> bool:
-        """Puts a chunk into the folder, where its seal is right."""
+        """Puts a chunk into the folder, where its seal is right. It isn't synced yet."""
         if not isinstance(sealed, bytes) or not hmac.compare_digest(sealed[:SEAL], self._seal(name, sealed[SEAL:])):
             return False
-        put_file(chunk_path(self.chunks, name), sealed[SEAL:])
+        put_file(chunk_path(self.chunks, name), sealed[SEAL:], is_synced=False)
         return True
 
     def forget(self, needed: set[str], grace: float) -> tuple[int, int]:

@@ -380,6 +380,11 @@ class Node:
 
 def main() -> NoReturn:
     words = sys.argv[1:]
+    if words[:1] == ["merge"]:
+        sys.path.insert(0, os.path.dirname(os.path.dirname(os.path.dirname(os.path.realpath(__file__)))))
+        from agent.tests.merging_model import main as merge
+
+        sys.exit(merge(words[1:]))
     given = dict(zip(words[1::2], words[2::2]))
     path = given["--record"] if words[0] == "coordinator" else given["--store"]
     os.makedirs(os.path.dirname(path) if words[0] == "coordinator" else path, exist_ok=True)

@@ -18,7 +18,7 @@ from unittest import mock
 
 from agent.commands.main import main
 from agent.filters.node import Setup
-from agent.folders import trees
+from agent.folders.index import make_whole
 from agent.store.folder import FolderStore, Store
 from agent.transport.hints import make_key
 from agent.transport.local import Transport
@@ -67,7 +67,7 @@ class RoomTest(unittest.TestCase):
 def kept(store: Store, path: str) -> tuple[bytes, str]:
     """Keeps what a folder holds. Its index, and the digest under which it lasts."""
     with store.making():
-        index = trees.make(store, path)
+        index = make_whole(store, path)
         return index, store.publish(index)
 
 

@@ -70,10 +70,10 @@ class Alone(support.FarmTest):
         self.lost()
         self.farm("run", "--folder", "locked:d=jobs/1/w", "--", "true")
         shutil.rmtree(self.path("jobs"))
-        known = len(os.listdir(f"{self.home}/node1/places"))
+        known = sorted(os.listdir(f"{self.home}/node1/places"))
         self.asked("prune", "locked:c")
         self.assertIn("indexes", self.asked("gc", "--grace", "0"))
-        self.assertEqual(len(os.listdir(f"{self.home}/node1/places")), known - 1)
+        self.assertEqual(len(os.listdir(f"{self.home}/node1/places")), len(known) - 2)
         self.assertIn("isn't in the store any more", self.asked("get", "locked:c@1", self.path("gone"), status=70))
         self.farm("run", "--folder", "locked:c=w", "--", "sh", "-c", "ls w > seen")
         self.assertEqual(self.read("seen"), "")
@@ -134,10 +134,8 @@ class Alone(support.FarmTest):
         os.rename(self.path("chunks"), f"{self.home}/contents/chunks")
 
     def test_left_early(self) -> None:
-        """A command whose caller goes while its folder is filled doesn't begin, and isn't waited for, nor is what one leaves. One that waits
-        for a path is told."""
-        self.write("bin/casync", f'#!/bin/sh\n[ $1 = make ] && ! [ -e {self.path("slow")} ] || {{ touch {self.path("casync")}; exec sleep 300; }}\n'
-                   f'exec {shutil.which("casync")} "$@"\n')
+        """A command whose caller goes while its folder is filled doesn't begin, and isn't waited for. One that waits for a path is told."""
+        self.write("bin/casync", f'#!/bin/sh\ntouch {self.path("casync")}\nexec sleep 300\n')
         os.chmod(self.path("bin/casync"), 0o755)
         self.env["PATH"] = f"{self.path('bin')}:{self.env['PATH']}"
         self.farm("run", "--folder", "locked:c=w", "--", "touch", "w/f")
@@ -150,12 +148,6 @@ class Alone(support.FarmTest):
         self.assertEqual((run.returncode, os.path.exists(self.path("ran"))), (75, False))
         other.communicate(timeout=support.PATIENCE)
         self.assertEqual(other.returncode, 0)
-        os.unlink(self.path("casync"))
-        run = self.begin("run", "--folder", "locked:e=u", "--", "touch", "u/f", "slow")
-        self.wait_for(self.path("casync"))
-        run.send_signal(signal.SIGINT)
-        self.assertIn("nobody waits", run.communicate(timeout=60)[1])
-        self.assertIn("no version", self.asked("log", "locked:e", status=70))
 
     def test_wrong_words(self) -> None:
         rows = [(["run", "--folder", "ccache=w", "--", "true"], 64, "is no folder"), (["run"], 64, "wants a command"), (["run", "--"], 64, "wants a command"), (["what"], 64, "invalid choice"),

@@ -18,7 +18,10 @@ from agent.store.chunks import chunk_names, chunk_path
 from agent.faults import FarmFault
 from agent.transport.hints import make_key
 from agent.folders.places import Places, Trash, check_apart, path_order, place_of
-from agent.folders.standing import identity, signature
+from agent.folders.held import Held
+from agent.folders.listing import walk
+from agent.folders.index import make_whole
+from agent.folders.standing import identity, is_trusted
 from agent.store.folder import FolderStore, put_file
 from agent.words import EMPTY
 
@@ -113,11 +116,12 @@ class Trees(support.RoomTest):
 
     def test_killed(self) -> None:
         """Of a casync that was killed, and so said nothing, the status is told."""
+        index, _ = support.kept(self.store, self.tree())
         self.write("bin/casync", "#!/bin/sh\nkill -9 $$\n")
         os.chmod(self.path("bin/casync"), 0o755)
         with mock.patch.dict("os.environ", {"PATH": f"{self.path('bin')}:{os.environ['PATH']}"}):
-            with self.assertRaisesRegex(FarmFault, r"\Acasync make /[^ ]+: it ended with status -9\Z"):
-                support.kept(self.store, self.tree())
+            with self.assertRaisesRegex(FarmFault, r"\Acasync extract /[^ ]+: it ended with status -9\Z"):
+                trees.extract(self.store, index, self.path("out"))
 
     def test_in_the_way(self) -> None:
         """What is at a path already stays, whatever the content."""
@@ -165,14 +169,13 @@ class Trees(support.RoomTest):
         subprocess.run([sys.executable, "-c", "import os\nfor i in range(1200): os.mkdir('a'); os.chdir('a')"], cwd=self.path("tree"), check=True)
         with self.assertRaisesRegex(FarmFault, "more than 63 names deep"):
             support.kept(self.store, self.path("tree"))
-        self.assertIsNone(signature(self.path("tree")))
         Trash(self.path("home")).take(self.path("tree"))
         support.until(lambda: not os.listdir(self.path("home/trash")), "it is still in the trash")
 
     def test_hollow(self) -> None:
         """What a power failure left of chunks that nobody had synced is made anew."""
         tree = self.tree()
-        index = trees.make(self.store, tree)
+        index = make_whole(self.store, tree)
         for name in chunk_names(index):
             with open(chunk_path(self.store.chunks, name), "wb"):
                 pass
@@ -185,7 +188,7 @@ class Trees(support.RoomTest):
     def test_cut_short(self) -> None:
         """So is what it left of chunks that were half written. What is spoilt otherwise is found where it is looked for."""
         tree = self.tree()
-        index = trees.make(self.store, tree)
+        index = make_whole(self.store, tree)
         paths = [chunk_path(self.store.chunks, name) for name in chunk_names(index)]
         for rest in (1, 3, 4, 20, -1):
             for path in paths:
@@ -243,49 +246,50 @@ class Standing(support.RoomTest):
         does(path)
         os.utime(self.path("w/a/f"), ns=(here.st_atime_ns, here.st_mtime_ns))
 
-    def test_signature(self) -> None:
+    def test_look(self) -> None:
+        """After any change a folder isn't taken for what it was, and of one that nobody changed no file is read."""
         self.write("w/a/f", "text")
         os.symlink("a", self.path("w/link"))
-        if signature(self.path("w")) is None:
+        if not is_trusted(self.path("w")):
             self.skipTest("no file system here whose times are trusted")
+
         def another(path: str) -> None:
             os.rename(path, f"{path}2")
-            self.write("w/a/f", "text")
-
-        def there_and_back(path: str) -> None:
-            os.rename(path, f"{path}3")
-            os.rename(f"{path}3", path)
+            self.write("w/a/f", "tent")
 
         def link(path: str) -> None:
             os.unlink(self.path("w/link"))
             os.symlink("b", self.path("w/link"))
 
+        def mapped(path: str) -> None:
+            with open(path, "r+b") as file, mmap.mmap(file.fileno(), 0) as mapped:
+                mapped[0:1] = bytes([mapped[0] ^ 1])
+                mapped.flush()
+
         rows: list[Callable[[str], object]] = [
-            lambda path: self.write("w/a/f", "tent"), lambda path: os.chmod(path, 0o600), lambda path: os.utime(path), another, there_and_back,
-            lambda path: os.unlink(f"{path}2"), link,
+            lambda path: self.write("w/a/f", "tent"), lambda path: os.chmod(path, 0o600), another, lambda path: os.unlink(f"{path}2"), link, mapped,
         ]
+        held = Held(self.path("w"), self.path("note"))
+        held.look()
         for number, row in enumerate(rows):
-            before = signature(self.path("w"))
-            self.read("w/a/f")
-            self.assertEqual(signature(self.path("w")), before)
+            held.settle()
+            held.save()
+            with mock.patch("hashlib.file_digest", side_effect=AssertionError):
+                self.assertEqual([each.look() for each in (held, Held(self.path("w"), self.path("note")))], [False, False], number)
             self.change(row)
-            self.assertNotEqual(signature(self.path("w")), before, number)
-        with mock.patch("agent.folders.standing.LOOKS", 2), mock.patch("agent.folders.standing.time.time_ns", return_value=0):
-            self.assertIsNone(signature(self.path("w")), "the clock was set back")
-        os.link(self.path("w/a/f"), self.path("w/a/g"))
-        self.assertIsNone(signature(self.path("w")))
-        os.unlink(self.path("w/a/g"))
-        before = signature(self.path("w"))
-        with open(self.path("w/a/f"), "r+b") as file, mmap.mmap(file.fileno(), 0) as mapped:
-            mapped[0:1] = bytes([mapped[0] ^ 1])
-            mapped.flush()
-        self.assertNotEqual(signature(self.path("w")), before, "a write through a mapping")
+            self.assertTrue(held.look(), number)
+            self.assertEqual(held.entries, walk(self.path("w"), {}, {}).entries)
+        again = Held(self.path("w"), self.path("note"))
+        os.rename(self.path("w"), self.path("old"))
+        shutil.copytree(self.path("old"), self.path("w"), symlinks=True)
+        self.assertTrue(again.entries)
+        self.assertFalse(Held(self.path("w"), self.path("note")).entries, "it is another folder")
 
     @unittest.skipUnless(os.path.isdir("/dev/shm"), "there is no tmpfs at /dev/shm")
     def test_not_trusted(self) -> None:
         """On a tmpfs a write through a mapping may leave a file's times as they were."""
         with tempfile.TemporaryDirectory(dir="/dev/shm") as room:
-            self.assertIsNone(signature(room))
+            self.assertFalse(is_trusted(room))
 
     @unittest.skipUnless(support.has("casync"), support.needs("casync"))
     def test_places(self) -> None:
@@ -293,13 +297,15 @@ class Standing(support.RoomTest):
         places.clear(path)
         self.write("w/f", "one")
         index, digest = places.keep(store, path)
-        if signature(path) is None:
+        if not is_trusted(path):
             self.skipTest("no file system here whose times are trusted")
         number = os.stat(self.path("w/f")).st_ino
-        with mock.patch("agent.folders.trees.make", side_effect=AssertionError), mock.patch("agent.folders.trees.extract", side_effect=AssertionError):
+        with mock.patch("hashlib.file_digest", side_effect=AssertionError), mock.patch("agent.folders.trees.extract", side_effect=AssertionError):
             places.fill(store, index, path)
             self.assertEqual(places.keep(store, path), (index, digest))
-            Places(self.path("home")).fill(store, index, path)
+            again = Places(self.path("home"))
+            again.fill(store, index, path)
+            self.assertEqual(again.keep(store, path), (index, digest))
         self.assertEqual(os.stat(self.path("w/f")).st_ino, number)
         self.write("w/f", "two")
         other, _ = places.keep(store, path)
@@ -482,6 +488,20 @@ class Paths(support.RoomTest):
         places.left(path)
         places.clear(path)
         self.assertEqual((os.listdir(path), self.read("mine/f")), ([], "x"))
+
+    def test_left_early(self) -> None:
+        """What nobody waits for any more isn't kept, and the folder isn't taken for a version."""
+        store, places, path = FolderStore(self.path("store")), Places(self.path("home")), self.path("w")
+
+        def gone() -> None:
+            raise FarmFault("nobody waits")
+
+        places.clear(path)
+        self.write("w/f", "x")
+        with self.assertRaisesRegex(FarmFault, "nobody waits"):
+            places.keep(store, path, check=gone)
+        self.assertEqual(os.listdir(store.indexes), [])
+        self.assertEqual(places.keep(store, path), support.kept(store, path))
 
     @unittest.skipUnless(support.has("casync"), support.needs("casync"))
     def test_own_disk(self) -> None:

@@ -22,7 +22,8 @@ sys.path.insert(0, str(Path(__file__).resolve().parents[2]))
 from agent.commands.main import main as farm  # noqa: E402
 from agent.filters.lines import Answer  # noqa: E402
 from agent.filters.node import NodeAgent  # noqa: E402
-from agent.folders import places  # noqa: E402
+from agent.folders import held  # noqa: E402
+from agent.runs import merged  # noqa: E402
 from agent.service import serving  # noqa: E402
 from agent.store import folder, redis  # noqa: E402
 from agent.transport.local import LocalTransport, Transport, address_of  # noqa: E402
@@ -130,7 +131,7 @@ def later(seconds: float, does: Callable[..., object], *words: object) -> None:
 def publish_late(real: Callable[..., str]) -> Callable[..., str]:
     """Gives the digest of a content that the store will have only later."""
 
-    def publish(made: Any, index: bytes, *_away: object) -> str:
+    def publish(made: Any, index: bytes, *_others: object) -> str:
         later(EARLY, real, made, index)
         return hashlib.sha256(index).hexdigest()
 
@@ -150,8 +151,11 @@ def main() -> int:
         wrong: Any = redis.RedisStore if "--broker" in sys.argv else folder.FolderStore
         wrong.publish = publish_late(wrong.publish)
     if said.get("wrong") == "stale":
-        folders: Any = places.Places
-        folders._standing = lambda self, path: (self._read(path) + [None] * 5)[3]
+        folders: Any = held.Held
+        folders.look = lambda self, *_check: False
+    if said.get("wrong") == "snapshot":
+        merges: Any = merged.MergedFolders
+        merges._merge = lambda self, own, slot, *_others: setattr(own, "number", slot.base)
     return farm()
 
 
