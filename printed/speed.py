@@ -1,7 +1,7 @@
 #!/usr/bin/env python3
 """Measures farmctl, as ratios of times in one run: docs/SPEED.md has the figures.
 
-usage: [FARMCTL=PROGRAM] [SMALLER=N] printed/speed.py [replay] [save] [events] [node] [read] [keys] [run]
+usage: [FARMCTL=PROGRAM] [SMALLER=N] printed/speed.py [replay] [save] [events] [node] [read] [keys] [merge] [run]
 
 Without words it measures all. Without FARMCTL it is the program that the gate builds; SMALLER divides the sizes, to try a build that isn't
 proved. A time is that of a processor, the system's included, less that of the same command on the least input; of nine runs, in turn
@@ -549,7 +549,33 @@ def run(room: Room) -> None:
     print(f"run, two files of 16 MB put: {min(wall([large]) for _ in range(3)):.2f} s, {memory(large) / 1e6:.0f} MB at most in memory", flush=True)
 
 
-SUBJECTS: dict[str, Callable[[Room], None]] = {"replay": replay, "save": save, "events": events, "node": node, "read": read, "keys": keys, "run": run}
+# Merges
+
+
+def listing(lines: int, side: int) -> bytes:
+    """A folder of files, a hundred lines for each folder in it. The sides have each another twentieth of the lines changed."""
+    made = list[str]()
+    for number in range(lines):
+        folder, file = divmod(number, 100)
+        changed = side if number % 20 == side else 0
+        name, time = f"d{folder:05}/some-file-name-{file:03}.o", 1_700_000_000_000_000_000 + number + changed
+        made.append(f"{name} f {time:020} {number + changed:064x} 644 0 0 {number}\n" if file else f"d{folder:05} d 755 0 0\n")
+    return "".join(made).encode("ascii")
+
+
+def merge(room: Room) -> None:
+    counts = [sized(count) for count in (25_000, 50_000, 200_000)]
+    sides = [[listing(count, side) for side in (0, 1, 2)] for count in (FEW, *counts)]
+    calls = [["merge", *(room.file(side) for side in three)] for three in sides]
+    least, *times = fastest(calls)
+    each = [(took - least) / count for took, count in zip(times, counts)]
+    for count, one, three, words in zip(counts, each, sides[1:], calls[1:]):
+        held = memory(words) / sum(map(len, three))
+        print(f"merge, 3 times {count} lines: {one * count:.2f} s, {one / each[0]:.2f} of one of {counts[0]}, memory {held:.2f} of the bytes", flush=True)
+
+
+SUBJECTS: dict[str, Callable[[Room], None]] = {"replay": replay, "save": save, "events": events, "node": node, "read": read, "keys": keys}
+SUBJECTS |= {"merge": merge, "run": run}
 
 
 def main(words: list[str]) -> int:
