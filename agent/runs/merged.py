@@ -300,9 +300,10 @@ class MergedFolders:
         if ask is None:
             raise FarmFault(f"{own.slot} can't be asked for")
         grant = agent.granted(ask, [own.slot], epoch, patience)
+        leased, is_late = time.monotonic(), grant.slots[0].base != own.number
         try:
             agent.begin(grant.ticket, epoch, patience)
-            if grant.slots[0].base != own.number:
+            if is_late:
                 with agent.store.making():
                     self._merge(own, grant.slots[0], rule, patience)
                     content = self._keep(own, patience)
@@ -315,6 +316,7 @@ class MergedFolders:
                 agent.give_back(grant.ticket, epoch)
             raise
         ending = agent.ending(ask, grant.ticket, epoch, patience.caller, patience)
+        agent.log(f"the lease {grant.ticket} of a merge was held for {time.monotonic() - leased:.2f} s{', and merged again under it' if is_late else ''}")
         if ending.how != "committed":
             return None
         number = next((number for number, _ in ending.versions.values()), grant.slots[0].base + 1)
