@@ -50,11 +50,14 @@ def do_status(args: argparse.Namespace) -> int:
     for waiting in told.waiting:
         left = ", and nobody there wants it any more" if waiting.left else ""
         show(f"node {waiting.node} waits for {', '.join(waiting.folders)}{left}")
+    for each in told.snapshots:
+        what = f"runs a command on {each.slot} version {each.version}" if each.state == "running" else f"merges into {each.slot}"
+        show(f"node {each.node} {what} {_ago(each.since)}")
     for folder in told.folders:
         show(f"{folder.slot} is at version {folder.version}")
     for node in told.gone:
         show(f"node {node} was retired")
-    if not told.leases and not told.waiting:
+    if not told.leases and not told.waiting and not told.snapshots:
         show("nobody has or wants a folder")
     return 0
 
@@ -72,7 +75,7 @@ def do_log(args: argparse.Namespace) -> int:
     told = client.told_at(coordinator_of(args), LogRequest(folder=args.folder), Versions)
     for slot, versions in told.slots.items():
         for version in versions:
-            show(f"{slot} version {version.version} ticket {version.ticket} {version.digest}")
+            show(f"{slot} version {version.version} ticket {version.ticket} {version.digest}{version.note and ' '}{version.note}")
     if not told.slots:
         raise FarmFault(f"{args.folder} has no version")
     return 0

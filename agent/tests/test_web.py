@@ -30,6 +30,7 @@ def told(nodes: int, leases: int, folder: str = "locked:c") -> dict[str, Any]:
         "now": now, "gone": [2], "retired": [], "lives": {str(n): 1_700_000_000 + n for n in range(1, nodes + 1)},
         "heard": {str(n): now - n for n in range(1, nodes + 1)},
         "leases": [{"ticket": t, "node": t % nodes + 1, "life": 1, "ask": t, "kind": "plain", "slots": [f"{folder}{t}"], "since": now - t} for t in range(1, leases + 1)],
+        "snapshots": [{"node": 2, "slot": "locked:c", "version": 4, "since": 1.0, "state": "merging"}],
         "waiting": [{"kind": "acquire", "node": 1, "life": 1, "ask": 5, "folders": [folder], "left": True}],
         "folders": [{"slot": f"{folder}{t}", "version": 3, "ticket": t, "digest": "0" * 64, "versions": [
             {"version": v, "ticket": v, "digest": "0" * 64, "size": 1234 ** v} for v in (3, 2, 1)]} for t in range(1, leases + 1)],
