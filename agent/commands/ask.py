@@ -7,11 +7,13 @@ from __future__ import annotations
 import argparse
 import json
 import os
+import subprocess
+import tempfile
 import time
 from typing import TYPE_CHECKING
 
 from agent.commands.run import node_sockets
-from agent.faults import FarmFault, UsageFault, show
+from agent.faults import FAULT, FarmFault, UsageFault, show
 from agent.service import client
 from agent.service.carried import plain
 from agent.service.operators import LogRequest, PruneRequest, RetireRequest, Status, StatusRequest, Versions, WithdrawRequest
@@ -65,8 +67,8 @@ def do_status(args: argparse.Namespace) -> int:
 def do_web(args: argparse.Namespace) -> int:
     from agent.web import web
 
-    def read() -> object:
-        return plain(client.told_at(coordinator_of(args), StatusRequest(last=LAST), Status, shows=False))
+    def read() -> Status:
+        return client.told_at(coordinator_of(args), StatusRequest(last=LAST), Status, shows=False)
 
     return web.serve(args.address, args.port, read)
 
@@ -96,8 +98,12 @@ def do_get(args: argparse.Namespace) -> int:
     index = store.index(found[-1].digest)
     if index is None:
         raise FarmFault(f"the content of version {found[-1].version} isn't in the store any more")
-    trees.extract_whole(store, index, os.path.abspath(args.to))
-    return 0
+    if args.to != "-":
+        trees.extract_whole(store, index, os.path.abspath(args.to))
+        return 0
+    with tempfile.TemporaryDirectory() as room:
+        trees.extract_whole(store, index, f"{room}/folder")
+        return subprocess.run(["tar", "-C", f"{room}/folder", "-c", "."], stdin=subprocess.DEVNULL).returncode and FAULT
 
 
 def store_at(home: str, place: StorePlace) -> Store:

@@ -239,6 +239,24 @@ class Alone(support.FarmTest):
             done = subprocess.run([*FARM, "run", "--", "env", "-0"], env=env | given | kept, cwd=self.room, capture_output=True, text=True, timeout=support.PATIENCE)
             self.assertEqual(sorted(done.stdout.split("\0")[:-1]), sorted(f"{key}={value}" for key, value in (env | given).items()))
 
+    def test_care(self) -> None:
+        """A folder is seeded from one of this machine, and a version leaves as a tar; the doctor says what is wrong, and its status does."""
+        for name in ("seed/a", "seed/sub/b", "other/c"):
+            self.write(name, name)
+        self.farm("put", "locked:p", "seed")
+        self.farm("put", "locked:p", "other")
+        for version, names in ((1, ["./", "./a", "./sub/", "./sub/b"]), (2, ["./", "./c"])):
+            done = subprocess.run([*FARM, "get", f"locked:p@{version}", "-"], env=self.env, cwd=self.room, capture_output=True, timeout=support.PATIENCE)
+            self.assertEqual(done.returncode, 0, done.stderr)
+            listed = subprocess.run(["tar", "-t"], input=done.stdout, capture_output=True, check=True).stdout.decode()
+            self.assertEqual(sorted(listed.split()), names)
+        self.assertIn("no folder", self.asked("put", "locked:p", self.path("nowhere"), status=64))
+        self.assertIn("name a locked or private one", self.asked("put", "shared:p", self.path("seed"), status=64))
+        self.assertIn("well: the farm's key", self.asked("doctor"))
+        os.chmod(f"{self.home}/key", 0o644)
+        self.assertIn(f"WRONG: the farm's key: others may read it: chmod 600 {self.home}/key", self.asked("doctor", status=70))
+        os.chmod(f"{self.home}/key", 0o600)
+
     def test_program_from_here(self) -> None:
         """The farm's program may be named from the folder in which a command is called. What follows a command's name is its own."""
         os.symlink(self.env["FARMCTL"], self.path("program"))
