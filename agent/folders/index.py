@@ -153,13 +153,13 @@ class _Making:
             return first
         end = self._same_until(first, end, was)
         last = bisect_right(self.old.ends, old.starts[was + end - first - 1]) - 1  # the last one that ends before a part which is as it was
-        while last >= number and (behind := old.starts_at.get(self.old.ends[last])) is None:
+        while last >= number and self.old.ends[last] not in old.starts_at:
             last -= 1  # it ends amid a large file or table
         if last < number:
             return first
         shift = starts[first] - old.starts[was]
         rows += zip((at + shift for at in self.old.ends[number : last + 1]), self.old.names[number : last + 1])
-        return first + behind - was
+        return first + old.starts_at[self.old.ends[last]] - was
 
     def _same_until(self, first: int, end: int, was: int) -> int:
         """Up to which part the old archive has the same ones in the same order: something that it has between them may be gone."""
