@@ -185,7 +185,7 @@ class _Making:
         number = self.old_begins.get(old.starts[first] + cut.begin)
         if number is None or self.old.ends[number] != old.starts[last] + cut.end:
             return None
-        return self.old.names[number]
+        return str(self.old.names[number])
 
     def _ends_of(self, number: int) -> list[int]:
         """Where the chunks of a large file end: of one that the old version has as that has it."""
