@@ -208,7 +208,10 @@ class Trial:
         return RedisStore(self.farm.url, f"{self.room}/fresh", self.farm.farm, Hints(f"{self.farm.home(None)}/key").chunk_key())
 
     def read_versions(self) -> None:
-        store = self.store()
+        try:
+            store = self.store()
+        except FarmFault:  # Redis is away just now
+            return
         for line in self.ask("log", "locked:c").splitlines():
             words = line.split(" ")
             number, digest = int(words[2]), words[5]
