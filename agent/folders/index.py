@@ -23,9 +23,9 @@ from agent.folders.held import Held
 from agent.folders.layout import FLAGS, LARGE, Layout, Part
 from agent.folders.listing import folder_of, mark_of
 from agent.folders.versions import PIECE, Version, none
-from agent.store.chunks import INDEX, TABLE, TAIL, is_whole
+from agent.store.chunks import INDEX, TABLE, TAIL
 from agent.store.folder import Store
-from agent.store.packing import name_of, put
+from agent.store.packing import CHECKED, Fresh, name_of, packed
 
 LEAST, USUAL, MOST = 1 << 14, 1 << 16, 1 << 18  # bytes of a chunk
 FULL = 1 << 17  # bytes behind which the next record that is done ends a chunk
@@ -128,13 +128,14 @@ class _Making:
                 at = cut.last + 1
                 if name is not None and rows[-1][0] == self.layout.starts[at]:
                     break  # from here on the old chunks may be taken over
-        with ThreadPoolExecutor(THREADS) as pool:
+        with Fresh(self.chunks) as fresh, ThreadPoolExecutor(THREADS) as pool:
             rest = iter(made)
             while some := list(islice(rest, AT_ONCE)):
                 self.check()
                 datas = [self._bytes(cut) for _, cut in some]
-                for (number, _), name in zip(some, pool.map(self._put, datas)):
+                for (number, _), name in zip(some, pool.map(lambda data: self._put(fresh, data), datas)):
                     rows[number] = (rows[number][0], name)
+            fresh.settle()
         table = b"".join(struct.pack("<Q", end) + bytes.fromhex(str(name)) for end, name in rows)
         size = 16 + len(table) + 40
         head = struct.pack("<8Q", 48, INDEX, FLAGS, LEAST, USUAL, MOST, 2**64 - 1, TABLE)
@@ -168,10 +169,11 @@ class _Making:
             end = first + (end - first) // 2
         return end
 
-    def _put(self, data: bytes) -> str:
+    def _put(self, fresh: Fresh, data: bytes) -> str:
+        """Makes a chunk where none is there that is right."""
         name = name_of(data)
-        if not is_whole(self.chunks, name):
-            put(self.chunks, name, data)
+        if not CHECKED.is_right(self.chunks, name, len(data)):
+            fresh.add(name, packed(data))
         return name
 
     def _old_name(self, cut: Cut) -> str | None:
