@@ -34,10 +34,9 @@ from agent.store.folder import put_file
 from agent.tools import need, whole, why
 from agent.words import short_name
 
-PROBE = re.compile(r"farm-probe (\d+) (\d+) (\d+) (\S+) (\S+)")
 SCRIPT = (
-    "for n in {numbers}; do echo farm-probe $n $(/busybox stat -c '%d %i' /m/$n) $(/busybox grep \" /m/$n \" /proc/self/mountinfo | "
-    "while read a b dev root rest; do echo $dev $root; done); done"
+    "for n in {numbers}; do echo $(/busybox stat -c '%d %i' /m/$n) $(/busybox grep \" /m/$n \" /proc/self/mountinfo | "
+    "while read a b dev root rest; do echo $dev $root; done); done > /told"
 )
 REFUSED_ARGS = ("BUILDKIT_CACHE_MOUNT_NS", "BUILDKIT_SYNTAX")
 SYNTAX = re.compile(r"\s*(?:#|//)\s*syntax\s*=\s*(\S+)", re.IGNORECASE)
@@ -117,7 +116,7 @@ class Docker:
         kinds = [kind for kind in ("rootless", "userns") if any(f"name={kind}" in each for each in info.get("SecurityOptions") or [])]
         if kinds:
             raise FarmFault(f"the Docker daemon at {self.host} runs with {kinds[0]}: owners there aren't what they are in a leased folder")
-        self._claim(str(info["ID"]))
+        self._claim(f"{info['ID']} {info['DockerRootDir']}")  # daemons of one machine may have one id
 
     def _check_cli(self) -> None:
         said = subprocess.run(self._words("--version"), stdin=subprocess.DEVNULL, capture_output=True, text=True).stdout
@@ -257,13 +256,14 @@ class Docker:
             script = SCRIPT.format(numbers=" ".join(str(n) for n in range(len(ids))))
             run = " ".join([f"RUN --mount=type=tmpfs,target=/dev/farm-{secrets.token_hex(16)}", *mounts, json.dumps(["/busybox", "sh", "-c", script])])
             with open(f"{room}/Dockerfile", "w") as file:
-                file.write(f"FROM scratch\nCOPY busybox /busybox\n{run}\n")
-            words = ("build", "--progress", "plain", "--network", "none", "-f", f"{room}/Dockerfile", context)
+                file.write(f"FROM scratch\nCOPY busybox /busybox\n{run}\nFROM scratch\nCOPY --from=0 /told /told\n")
+            words = ("build", "--progress", "plain", "--network", "none", "-o", f"type=local,dest={room}/out", "-f", f"{room}/Dockerfile", context)
             done = self._call(*words, config=self._config(room, BuildOptions()), check=check)
-        found = {int(n): host_path(mark, root, int(device), int(number)) for n, device, number, mark, root in PROBE.findall(done.stdout + done.stderr)}
-        if done.returncode or len(found) < len(ids):
-            raise FarmFault(f"BuildKit can't mount caches: {why(done)}")
-        return [found[n] for n in range(len(ids))]
+            if done.returncode:
+                raise FarmFault(f"BuildKit can't mount caches: {why(done)}")
+            with open(f"{room}/out/told") as told:
+                rows = [line.split() for line in told]
+        return [host_path(mark, root, int(device), int(number)) for device, number, mark, root in rows]
 
 
 def syntax_of(text: str) -> bool:

@@ -221,7 +221,10 @@ class SharedFolders:
             return Closed(f"{folder} is given back as it was")
         if tenure.home and tenure.mount:
             tenure.home.still([tenure.mount], lambda: None)
-        index, _ = agent.places.keep(agent.store, tenure.path, patience.say)
+        index, digest = agent.places.keep(agent.store, tenure.path, patience.say)
+        if tenure.home and digest == slot.digest:
+            self._given_up(tenure, f"abort {tenure.ticket}")
+            return Closed(f"{folder} is given back: nothing was changed in it, so there is no new version")
         with agent.places.rooms.file(index) as file:
             note = self._given_up(tenure, line_of("finish", str(tenure.ticket), f"{slot.name}={file}"))
         if note != f"finished {tenure.ticket}":

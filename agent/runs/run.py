@@ -177,7 +177,7 @@ class Run:
             status = None if ask is None else self._run_asked(ask, tenures)
         finally:
             for folder, tenure in tenures.items():
-                ends.append(self.agent.shared.leave(folder, tenure, self.caller, self.ended == 0))
+                ends.append(self.agent.shared.leave(folder, tenure, self.caller, self.ended == 0 or not self.begun))
                 self.caller.say(ends[-1].said)
         if status == 0 and any(closed.is_left for closed in ends):
             raise ClientGone("nobody waits for it any more")
