@@ -11,6 +11,7 @@ BuildKit gives it a second directory. So a SHARED folder is probed only while no
 from __future__ import annotations
 
 import contextlib
+import functools
 import json
 import os
 import re
@@ -57,7 +58,7 @@ class Docker:
     # Calls.
 
     def _words(self, *words: str) -> list[str]:
-        return [need(os.environ.get("FARM_DOCKER") or "docker"), *words]
+        return [cli(), *words]
 
     def _env(self, config: str) -> dict[str, str]:
         path = os.environ.get("PATH", os.defpath)
@@ -110,21 +111,12 @@ class Docker:
         if self.version < OLDEST:
             raise Missing(f"the Docker daemon at {self.host} is of version {told}: its BuildKit has no cache mounts before 20.10")
         need("busybox")
-        if not self.claimed:
-            self._check_cli()
+        cli()
         info = self.engine.ask("/info")
         kinds = [kind for kind in ("rootless", "userns") if any(f"name={kind}" in each for each in info.get("SecurityOptions") or [])]
         if kinds:
             raise FarmFault(f"the Docker daemon at {self.host} runs with {kinds[0]}: owners there aren't what they are in a leased folder")
         self._claim(f"{info['ID']} {info['DockerRootDir']}")  # daemons of one machine may have one id
-
-    def _check_cli(self) -> None:
-        said = subprocess.run(self._words("--version"), stdin=subprocess.DEVNULL, capture_output=True, text=True).stdout
-        found = re.search(r"version (\d+)\.", said)
-        if found and int(found[1]) >= WITH_BUILDX:
-            has = subprocess.run(self._words("buildx", "version"), stdin=subprocess.DEVNULL, capture_output=True)
-            if has.returncode:
-                raise Missing(f"{self._words()[0]} is of version {found[1]}, and builds by buildx, which isn't installed: apt-get install docker-buildx")
 
     def _claim(self, daemon: str) -> None:
         """Says on this machine that this node has the daemon: another one would keep each folder there once more."""
@@ -264,6 +256,22 @@ class Docker:
             with open(f"{room}/out/told") as told:
                 rows = [line.split() for line in told]
         return [host_path(mark, root, int(device), int(number)) for device, number, mark, root in rows]
+
+
+@functools.cache
+def cli() -> str:
+    """The first `docker` of the path that can build."""
+    why_not = ""
+    for folder in os.environ.get("PATH", os.defpath).split(os.pathsep):
+        path = f"{folder}/docker"
+        if os.access(path, os.X_OK):
+            told = re.search(r"version (\d+)\.", subprocess.run([path, "--version"], stdin=subprocess.DEVNULL, capture_output=True, text=True).stdout)
+            if told and int(told[1]) < WITH_BUILDX or not subprocess.run([path, "buildx", "version"], stdin=subprocess.DEVNULL, capture_output=True).returncode:
+                return path
+            why_not = f"{path} builds by buildx, which isn't installed: apt-get install docker-buildx"
+    if why_not:
+        raise Missing(why_not)
+    return need("docker")
 
 
 def syntax_of(text: str) -> bool:

@@ -20,11 +20,13 @@ import sys
 import tempfile
 import time
 from pathlib import Path
-from typing import Iterator
+from typing import Callable, Iterator
 
 sys.dont_write_bytecode = True
 sys.path.insert(0, str(Path(__file__).resolve().parents[2]))
 
+from agent.build.docker import cli  # noqa: E402
+from agent.build.engine import users_of  # noqa: E402
 from agent.tools import TOP  # noqa: E402
 from agent.trials.farms import PYTHON_FARM  # noqa: E402
 
@@ -33,14 +35,16 @@ BASE = 'FROM scratch\nCOPY busybox /bin/busybox\nRUN ["/bin/busybox", "--install
 MOUNT = "--mount=type=cache,sharing=locked,target=/c"
 COUNT = f"FROM farm-trial\nARG LINE\nRUN {MOUNT},id=lines echo $LINE >> /c/f; cp /c/f /f\n"
 ZOMBIE = 12  # seconds for which a step goes on whose daemon was killed
-PLANT = """import sys
+PLANTED = """import sys
 sys.path.insert(0, {top!r})
-from agent.build import cacheids
+from agent.build import cacheids, docker
+docker.end_users = lambda paths: None
 renewed = cacheids._renewed
-cacheids._renewed = lambda known: known if known.id else renewed(known)
+if {keeps_ids}:
+    cacheids._renewed = lambda known: known if known.id else renewed(known)
 from agent.commands.main import main
 sys.exit(main(sys.argv[1:]))
-"""  # an agent that keeps ids
+"""  # an agent that ends no step of an old id, so that the id alone is in its way; and one that keeps ids too
 
 
 class Wrong(Exception):
@@ -104,13 +108,12 @@ class Trial:
     def __init__(self, room: str, keeps_ids: bool) -> None:
         self.room, self.home, self.context = room, f"{room}/home", f"{room}/context"
         self.daemons = [Daemon(f"{room}/d{number}") for number in (1, 2)]
-        self.farm_words = [sys.executable, "-c", PLANT.format(top=TOP)] if keeps_ids else list(PYTHON_FARM)
+        self.farm_words = [sys.executable, "-c", PLANTED.format(top=TOP, keeps_ids=keeps_ids)]
 
     @contextlib.contextmanager
     def standing(self) -> Iterator[None]:
         os.makedirs(self.context)
         shutil.copy(shutil.which("busybox") or "", f"{self.context}/busybox")
-        up = None
         try:
             for daemon in self.daemons:
                 daemon.start()
@@ -118,18 +121,21 @@ class Trial:
                     file.write(BASE)
                 done = daemon.call("build", "--network", "none", "-t", "farm-trial", "-f", f"{self.context}/base", self.context)
                 expect(done.returncode == 0, done.stderr[-600:])
-            up = subprocess.Popen(
-                [*self.farm_words, "up", "--home", self.home, "--nodes", "2"], stdin=subprocess.DEVNULL, stdout=subprocess.PIPE, text=True
-            )
+            yield
+        finally:
+            for daemon in self.daemons:
+                daemon.stop()
+
+    @contextlib.contextmanager
+    def farm(self, words: list[str]) -> Iterator[None]:
+        up = subprocess.Popen([*words, "up", "--home", self.home, "--nodes", "2"], stdin=subprocess.DEVNULL, stdout=subprocess.PIPE, text=True)
+        try:
             assert up.stdout
             expect(up.stdout.readline() == "up\n", "the farm doesn't start")
             yield
         finally:
-            if up:
-                up.terminate()
-                up.wait()
-            for daemon in self.daemons:
-                daemon.stop()
+            up.terminate()
+            up.communicate()
 
     def begin(self, node: int, text: str, *words: str) -> subprocess.Popen[str]:
         with tempfile.NamedTemporaryFile("w", dir=self.context, prefix="Dockerfile", delete=False) as file:
@@ -199,22 +205,33 @@ class Trial:
         """A step outlives its daemon, and writes while the next build has the folder."""
         mount = f"FROM farm-trial\nRUN {MOUNT},id=zombie "
         self.build(1, f"{mount} echo first > /c/a\n")
-        # It stands in no cgroup that the farm's sweep would look for: what is to hold is that the next lease has another directory.
-        late = self.begin(1, f"{mount} touch /c/begun; sleep {ZOMBIE}; echo ZOMBIE > /c/z\n")
-        path = str(self.known("locked:zombie")["path"])
-        end = time.monotonic() + PATIENCE
-        while not os.path.exists(f"{path}/begun"):
-            expect(time.monotonic() < end and late.poll() is None, "the step doesn't begin")
-            time.sleep(0.1)
-            path = str(self.known("locked:zombie")["path"])
         begun = time.monotonic()
-        self.daemons[0].kill()
-        said = late.communicate(timeout=PATIENCE)[0]
-        expect(late.returncode != 0, f"a build ended well whose daemon was killed: {said[-1500:]}")
+        self.orphan(f"{mount} touch /c/begun; sleep {ZOMBIE}; echo ZOMBIE > /c/z\n")
         self.build(1, f"{mount} sleep {max(ZOMBIE + 2 - (time.monotonic() - begun), 1):.0f}; ls /c > /c/seen\n")
         found = self.got("locked:zombie")
         expect(sorted(found) == ["a", "seen"], f"the next version holds {found}, of a step that outlived its daemon")
         return "a step that outlived its daemon wrote into no version"
+
+    def orphan(self, text: str) -> str:
+        """Kills the daemon once a step of a build writes. The directory that the step goes on to have."""
+        build, end, path = self.begin(1, text), time.monotonic() + PATIENCE, "/nowhere"
+        while not os.path.exists(f"{path}/begun"):
+            expect(time.monotonic() < end and build.poll() is None, "the step doesn't begin")
+            time.sleep(0.1)
+            path = str(self.known("locked:zombie")["path"])
+        self.daemons[0].kill()
+        said = build.communicate(timeout=PATIENCE)[0]
+        expect(build.returncode != 0, f"a build ended well whose daemon was killed: {said[-1500:]}")
+        return path
+
+    def ended(self) -> str:
+        """A step that outlived its daemon is ended with its build, and what it wrote goes with the next lease."""
+        mount = f"FROM farm-trial\nRUN {MOUNT},id=zombie "
+        path = self.orphan(f"{mount} touch /c/begun; sleep 600\n")
+        expect(not list(users_of([path])), f"a step still has {path}, of a build that is over")
+        self.build(1, f"{mount} true\n")
+        expect(not os.path.exists(path), f"{path} is still there, of a lease that didn't end well")
+        return "and was ended, and its directory dropped"
 
     def known(self, slot: str) -> dict[str, object]:
         """What node 1 knows of a slot's mount."""
@@ -225,23 +242,38 @@ class Trial:
         return {"path": "/nowhere"}
 
 
+def found(tried: Callable[[], str]) -> str:
+    """What the plant makes wrong."""
+    try:
+        said = tried()
+    except Wrong as fault:
+        return f"found: {str(fault).splitlines()[0][:120]}"
+    raise Wrong(f"kept ids aren't found: {said}")
+
+
 def main() -> int:
     words = argparse.ArgumentParser()
     words.add_argument("--keep-ids", action="store_true", help="plants the fault that ids are kept")
     keeps_ids = words.parse_args().keep_ids
+    os.environ["PATH"] = f"{os.path.dirname(cli())}:{os.environ['PATH']}"
     room = os.path.realpath(tempfile.mkdtemp(prefix="farm-docker-"))
-    said: list[str] = []
+    trial = Trial(room, keeps_ids)
     try:
-        trial = Trial(room, keeps_ids)
         with trial.standing():
-            for tried in [trial.mended, trial.zombie] if keeps_ids else [trial.counts, trial.mended, trial.shared, trial.zombie]:
-                said.append(tried())
+            with trial.farm(trial.farm_words):
+                if keeps_ids:
+                    said = [found(trial.zombie), found(trial.mended)]
+                else:
+                    said = [trial.counts(), trial.mended(), trial.shared(), trial.zombie()]
+            if not keeps_ids:
+                with trial.farm(list(PYTHON_FARM)):
+                    said.append(trial.ended())
+        print("; ".join(said))
     except Wrong as fault:
         print(f"wrong: {fault}")
         return 1
     finally:
         shutil.rmtree(room, ignore_errors=True)
-    print("; ".join(said))
     return 0
 
 
