@@ -13,7 +13,7 @@ from typing import Callable
 from agent.faults import FarmFault, Missing
 from release import choice
 
-PACKAGES = {"ip": "iproute2"}  # where a package has another name
+PACKAGES = {"ip": "iproute2", "busybox": "busybox-static", "docker": "docker.io"}  # where a package has another name
 TOP = os.path.dirname(os.path.dirname(os.path.abspath(__file__)))
 LOOK = 0.2  # seconds after which it is seen that nobody waits any more
 

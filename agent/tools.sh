@@ -37,6 +37,7 @@ done <<'END'
 casync casync
 buildah buildah
 busybox busybox-static
+dockerd docker.io
 redis-server redis-server
 python:mypy python3-mypy
 python:pyflakes python3-pyflakes

@@ -1,8 +1,8 @@
 """Which folders a Dockerfile wants, and its text as the builder gets to read it.
 
 Owes the filters that each cache mount of each stage that is built is on the list. Stages that the target doesn't need are emptied, so
-that the builder can't run them. All other text the builder reads as its author wrote it, but for here-documents of RUN, which buildah
-1.28 doesn't know: they become the JSON form.
+that the builder can't run them. All other text the builder reads as its author wrote it, but for here-documents of RUN where the builder
+has none: they become the JSON form. buildah 1.28 and BuildKit read some things otherwise, and a text is read as its builder will.
 """
 from __future__ import annotations
 
@@ -17,6 +17,19 @@ from agent.build.mounts import Mount, mount_of
 from agent.words import MOST_FOLDERS
 
 
+@dataclass(frozen=True)
+class Reader:
+    """Who reads a Dockerfile."""
+
+    is_buildkit: bool = False
+    has_heredocs: bool = False
+    platform: str | None = None  # that is built for, where that isn't this machine's
+
+
+BUILDAH = Reader()
+LEFT_OVER = re.compile(r"type=cache", re.IGNORECASE)
+
+
 @dataclass
 class Base:
     """What an image says of the builds that begin with it."""
@@ -28,10 +41,14 @@ class Base:
 
 @dataclass
 class Plan:
-    text: str  # the Dockerfile for the builder
+    pieces: list[str | Mount]  # the Dockerfile for the builder, with a hole for each cache mount
     mounts: list[Mount]
     bases: list[str]
     target: str  # the stage that is built, by the name that the builder has for it
+
+    def text(self, word: Callable[[Mount], str]) -> str:
+        """The Dockerfile with the builder's words of its mounts."""
+        return "".join(each if isinstance(each, str) else word(each) for each in self.pieces)
 
     def folders(self) -> dict[str, list[Mount]]:
         """The mounts by their folders."""
@@ -50,10 +67,24 @@ class Stage:
     body: list[Instruction] = field(default_factory=list)
     env: dict[str, str] = field(default_factory=dict)
     args: dict[str, str] = field(default_factory=dict)
+    said: dict[str, str] = field(default_factory=dict)  # by ARG or ENV, whichever came last
     shell: list[str] | None = None
 
-    def values(self) -> dict[str, str]:
-        return self.args | self.env  # ENV wins
+    def begin(self, env: dict[str, str], said: dict[str, str], shell: list[str] | None) -> None:
+        self.env, self.said, self.shell = dict(env), said | env, shell
+
+    def values(self, reader: Reader) -> dict[str, str]:
+        return self.said if reader.is_buildkit else self.args | self.env  # in buildah ENV wins
+
+    def set_arg(self, key: str, value: str | None) -> None:
+        for values in (self.args, self.said):
+            _set(values, key, value)
+
+    def set_env(self, key: str, value: str | None) -> None:
+        for values in (self.env, self.said):
+            _set(values, key, value)
+        if value is None:
+            self.args.pop(key, None)
 
     @property
     def builder_name(self) -> str:
@@ -64,6 +95,14 @@ class Stage:
         if self.name and name != self.name and name.lower() == self.name.lower():
             raise BadDockerfile(self.head.line, f"the stage {self.name} is also called {name}: builders differ on whether that is the same")
         return name in (self.name, str(self.place))
+
+
+def _set(values: dict[str, str], key: str, value: str | None) -> None:
+    """Sets a variable; with none what it holds can't be told, which matters only where a mount uses it."""
+    if value is None:
+        values.pop(key, None)
+    else:
+        values[key] = value
 
 
 def stage_of(place: int, head: Instruction) -> Stage:
@@ -85,15 +124,15 @@ def expand(line: int, word: str, values: dict[str, str], what: str, quotes: bool
 class Planner:
     """Goes over one Dockerfile."""
 
-    def __init__(self, text: str, build_args: dict[str, str], base_of: Callable[[str], Base], shared_as: str) -> None:
-        self.text, self.base_of, self.shared_as = text, base_of, shared_as
+    def __init__(self, text: str, build_args: dict[str, str], base_of: Callable[[str], Base], shared_as: str, reader: Reader) -> None:
+        self.text, self.base_of, self.shared_as, self.reader = text, base_of, shared_as, reader
         arch = {"x86_64": "amd64", "aarch64": "arm64"}.get(os.uname().machine, os.uname().machine)
-        platform = {"TARGETPLATFORM": f"linux/{arch}", "TARGETOS": "linux", "TARGETARCH": arch, "TARGETVARIANT": ""}
-        self.platform = platform | {key.replace("TARGET", "BUILD"): value for key, value in platform.items()}
+        own = platform_of("BUILD", f"linux/{arch}")
+        self.platform = platform_of("TARGET", reader.platform or f"linux/{arch}") | own
         self.given = self.platform | build_args
         self.heading: dict[str, str] = {}
         self.stages: list[Stage] = []
-        self.edits: list[tuple[int, int, str]] = []
+        self.edits: list[tuple[int, int, list[str | Mount]]] = []
         self.mounts: list[Mount] = []
         self.bases: list[str] = []
 
@@ -109,18 +148,24 @@ class Planner:
             else:
                 self._empty(stage)
         self._check_sharings()
-        return Plan(self._edited(), self.mounts, self.bases, wanted.builder_name)
+        made = Plan(self._edited(), self.mounts, self.bases, wanted.builder_name)
+        if self.reader.is_buildkit:
+            check_unread(made)
+        return made
 
     # Stages.
 
     def _split(self) -> None:
-        for instruction in instructions(self.text):
+        for instruction in instructions(self.text, self.reader.is_buildkit):
             if instruction.keyword == "FROM":
                 self.stages.append(stage_of(len(self.stages), instruction))
             elif self.stages:
                 self.stages[-1].body.append(instruction)
             elif instruction.keyword == "ARG":
-                self._arg(self.heading, self.heading, instruction)
+                for key, value in self._args(self.heading, instruction, {}).items():
+                    _set(self.heading, key, value)
+            elif self.reader.is_buildkit:
+                raise BadDockerfile(instruction.line, f"{instruction.keyword[:40]} stands before the first FROM")
         if not self.stages:
             raise BadDockerfile(0, "the Dockerfile has no FROM")
 
@@ -136,19 +181,29 @@ class Planner:
         return next((stage for stage in reversed(self.stages[: before.place]) if stage.is_called(name)), None)
 
     def _base_name(self, stage: Stage) -> str:
-        return expand(stage.head.line, stage.base.word, self.platform | self.heading, "FROM", True)
+        name = expand(stage.head.line, stage.base.word, self.platform | self.heading, "FROM", True)
+        if self.reader.is_buildkit and name.isdigit():
+            raise BadDockerfile(stage.head.line, f"FROM {name}: builders differ on whether that is a stage")
+        return name
 
     def _needed(self, target: Stage) -> set[int]:
         """The places of the stages that a target comes from."""
         needed, new = {target.place}, [target]
         while new:
             stage = new.pop()
-            for name in [self._base_name(stage), *self._sources(stage)]:
-                found = [self._called(name, stage)] if "$" not in name else list(self.stages[: stage.place])
-                fresh = [other for other in found if other and other.place not in needed]
-                needed.update(other.place for other in fresh)
-                new += fresh
+            base = self._called(self._base_name(stage), stage)
+            found = [base, *(other for name in self._sources(stage) for other in self._copied(name, stage))]
+            for other in found:
+                if other and other.place not in needed:
+                    needed.add(other.place)
+                    new.append(other)
         return needed
+
+    def _copied(self, name: str, stage: Stage) -> list[Stage | None]:
+        """The stages that a source's name may mean. BuildKit finds later ones too."""
+        if self.reader.is_buildkit:
+            return [other for other in self.stages if "$" in name or other.is_called(name)]
+        return [self._called(name, stage)] if "$" not in name else list(self.stages[: stage.place])
 
     def _sources(self, stage: Stage) -> list[str]:
         """The names that a stage copies and mounts from. An ONBUILD of it may name any."""
@@ -160,7 +215,7 @@ class Planner:
                 if flag.word.startswith("--mount=") and "$" in flag.word:
                     names.append("$")
                 elif flag.word.startswith("--mount="):
-                    names += [part[5:] for part in flag.word[8:].split(",") if part.startswith("from=")]
+                    names += [part.partition("=")[2] for part in flag.word[8:].split(",") if part.strip().lower().startswith("from=")]
                 elif flag.word.startswith("--from="):
                     names.append(flag.word[7:])
         return names
@@ -170,7 +225,7 @@ class Planner:
         self._edit(stage.head, stage.base.begin, stage.base.end, "scratch")
         for instruction in stage.body:
             lines = self.text.count("\n", instruction.begin, instruction.end)
-            self.edits.append((instruction.begin, instruction.end, "\n" * lines))
+            self.edits.append((instruction.begin, instruction.end, ["\n" * lines]))
 
     def _begin(self, stage: Stage) -> None:
         name = self._base_name(stage)
@@ -179,16 +234,18 @@ class Planner:
             for instruction in before.body:
                 if instruction.keyword == "ONBUILD":
                     self._check_trigger(stage, before.builder_name, instruction.rest)
-            stage.env, stage.shell = dict(before.env), before.shell
+            stage.begin(before.env, before.said, before.shell)
         elif name != "scratch":
             base = self.base_of(name)
             self.bases.append(name)
             for trigger in base.onbuild:
                 self._check_trigger(stage, name, trigger)
-            stage.env, stage.shell = dict(base.env), base.shell
+            stage.begin(base.env, {}, base.shell)
 
     def _check_trigger(self, stage: Stage, name: str, trigger: str) -> None:
         for inner in instructions(trigger):
+            if self.reader.is_buildkit and "from=" in trigger.lower():
+                raise BadDockerfile(stage.head.line, f"{name} has `ONBUILD {trigger}`: the stage that it names may have cache mounts of its own")
             for flag in flags_of(inner)[0] if inner.keyword == "RUN" else []:
                 if flag.word.startswith("--mount") and ("cache" in flag.word.lower() or "$" in flag.word):
                     raise BadDockerfile(stage.head.line, f"{name} has `ONBUILD {trigger}`: its cache can't be leased")
@@ -198,36 +255,45 @@ class Planner:
     def _read(self, stage: Stage, instruction: Instruction) -> None:
         keyword = instruction.keyword
         if keyword == "ARG":
-            self._arg(stage.args, stage.values(), instruction)
+            for key, value in self._args(stage.values(self.reader), instruction, self.heading).items():
+                stage.set_arg(key, value)
         elif keyword == "ENV":
             self._env(stage, instruction)
         elif keyword == "SHELL":
             self._shell(stage, instruction)
         elif keyword == "RUN":
             self._run(stage, instruction)
-        elif instruction.heredocs:
-            raise BadDockerfile(instruction.line, f"here-documents of {keyword}: buildah 1.28 has none, and nothing stands for them")
+        elif instruction.heredocs and not self.reader.has_heredocs:
+            told = "this daemon's BuildKit has none: a first line `# syntax=docker/dockerfile:1` gets one that has" if self.reader.is_buildkit else (
+                "buildah 1.28 has none, and nothing stands for them"
+            )
+            raise BadDockerfile(instruction.line, f"here-documents of {keyword}: {told}")
 
-    def _arg(self, into: dict[str, str], values: dict[str, str], instruction: Instruction) -> None:
-        for key, value in pairs_of(instruction.rest, False):
+    def _args(self, values: dict[str, str], instruction: Instruction, heading: dict[str, str]) -> dict[str, str | None]:
+        """What an ARG sets; none, where that can't be told. BuildKit's versions differ on whether one sees those of its own line."""
+        pairs = pairs_of(instruction.rest, False)
+        own = {key for key, _ in pairs} if self.reader.is_buildkit else set()
+        found: dict[str, str | None] = {}
+        for key, value in pairs:
             if key in self.given:
-                into[key] = self.given[key]
+                found[key] = self.given[key]
             elif value is not None:
+                seen = {name: text for name, text in (values | found).items() if text is not None and name not in own - {key}}
                 try:
-                    into[key] = expanded(value, values | into)
+                    found[key] = expanded(value, seen)
                 except Unknown:
-                    into.pop(key, None)  # that matters only where a mount uses it
-            elif into is not self.heading and key in self.heading:
-                into[key] = self.heading[key]
+                    found[key] = None
+            elif key in heading:
+                found[key] = heading[key]
+        return found
 
     def _env(self, stage: Stage, instruction: Instruction) -> None:
-        values = stage.values()
+        values = dict(stage.values(self.reader))
         for key, value in pairs_of(instruction.rest, True):
             try:
-                stage.env[key] = expanded(value or "", values)
+                stage.set_env(key, expanded(value or "", values))
             except Unknown:
-                stage.env.pop(key, None)
-                stage.args.pop(key, None)
+                stage.set_env(key, None)
 
     def _shell(self, stage: Stage, instruction: Instruction) -> None:
         try:
@@ -240,44 +306,51 @@ class Planner:
 
     def _run(self, stage: Stage, instruction: Instruction) -> None:
         flags, at = flags_of(instruction)
-        words, edits = [], []
+        words: list[str | Mount] = ["RUN "]
         for flag in flags:
             word = instruction.text[flag.begin : flag.end]
-            mount = self._mount(stage, instruction, flag)
-            if mount:
-                self.mounts.append(mount)
-                word = mount.word
-                edits.append((flag.begin, flag.end, word))
-            words.append(word)
-        if instruction.heredocs:
+            found = self._mount(stage, instruction, flag)
+            if isinstance(found, Mount):
+                self.mounts.append(found)
+            words += [found or word, " "]
+            if found and not (instruction.heredocs and not self.reader.has_heredocs):
+                self._edit(instruction, flag.begin, flag.end, found)
+        if instruction.heredocs and not self.reader.has_heredocs:
             script = script_of(instruction, instruction.text[at:].rstrip())
-            whole = " ".join(["RUN", *words, json.dumps([*(stage.shell or ["/bin/sh", "-c"]), script])])
-            self.edits.append((instruction.begin, instruction.end, whole + "\n"))
-        else:
-            for begin, end, word in edits:
-                self._edit(instruction, begin, end, word)
+            words.append(json.dumps([*(stage.shell or ["/bin/sh", "-c"]), script]) + "\n")
+            self.edits.append((instruction.begin, instruction.end, words))
 
-    def _mount(self, stage: Stage, instruction: Instruction, flag: Flag) -> Mount | None:
+    def _mount(self, stage: Stage, instruction: Instruction, flag: Flag) -> Mount | str | None:
+        """The cache mount of a flag; else its word, where BuildKit isn't to expand that once more; else none."""
         if not flag.word.startswith("--mount="):
             return None
         value, line = flag.word.removeprefix("--mount="), instruction.line
         if any(c in value for c in "\"'\\"):
             if "cache" in value.lower() or "$" in value:
                 raise BadDockerfile(line, f"mount `{value[:200]}`: quotes and backslashes within it have no one reading")
-        elif "$" in value:
-            value = expand(line, value, stage.values(), "mount", False)
-        return mount_of(line, value, self.shared_as)
+            return None
+        has_variables = "$" in value
+        if has_variables:
+            value = expand(line, value, stage.values(self.reader), "mount", False)
+        mount = mount_of(line, value, self.shared_as)
+        if mount or not (has_variables and self.reader.is_buildkit):
+            return mount
+        if any(c.isspace() or c in "\"'\\$" for c in value):
+            raise BadDockerfile(line, f"mount `{value[:200]}`: spaces, quotes and $ within it have no one reading")
+        return f"--mount={value}"
 
     # The text.
 
-    def _edit(self, instruction: Instruction, begin: int, end: int, word: str) -> None:
-        self.edits.append((instruction.chars[begin][1], instruction.chars[end - 1][1] + 1, word))
+    def _edit(self, instruction: Instruction, begin: int, end: int, word: str | Mount) -> None:
+        self.edits.append((instruction.chars[begin][1], instruction.chars[end - 1][1] + 1, [word]))
 
-    def _edited(self) -> str:
-        text = self.text
-        for begin, end, word in sorted(self.edits, reverse=True):
-            text = text[:begin] + word + text[end:]
-        return text
+    def _edited(self) -> list[str | Mount]:
+        pieces: list[str | Mount] = []
+        at = 0
+        for begin, end, words in sorted(self.edits, key=lambda edit: edit[:2]):
+            pieces += [self.text[at:begin], *words]
+            at = end
+        return [*pieces, self.text[at:]]
 
     def _check_sharings(self) -> None:
         by_id: dict[str, Mount] = {}
@@ -289,6 +362,22 @@ class Planner:
                 )
         if len(by_id) > MOST_FOLDERS:
             raise BadDockerfile(0, f"{len(by_id)} cache folders: one lease has at most {MOST_FOLDERS}")
+
+
+def check_unread(plan: Plan) -> None:
+    """Refuses what may be a cache mount to BuildKit, and was none to this reader: it would run outside of any lease."""
+    lines = [(number, line) for number, line in enumerate(plan.text(lambda mount: "").split("\n"), 1) if not line.lstrip().startswith("#")]
+    whole = "".join(f"{re.sub('[^ -~]', '', line)}\n" for _, line in lines)
+    joined = re.sub(r"[\\`] *\n", "", whole)
+    if LEFT_OVER.search(re.sub(r"[\"'\\` ]", "", joined)):
+        line = next((number for number, line in lines if LEFT_OVER.search(line)), 0)
+        raise BadDockerfile(line, "`type=cache` stands where no cache mount of a RUN is read, and BuildKit might find one there: spell it otherwise")
+
+
+def platform_of(front: str, text: str) -> dict[str, str]:
+    """The variables of a platform: OS/ARCHITECTURE[/VARIANT]."""
+    system, arch, variant = (text.split("/") + ["", ""])[:3]
+    return {f"{front}PLATFORM": text, f"{front}OS": system, f"{front}ARCH": arch, f"{front}VARIANT": variant}
 
 
 def script_of(instruction: Instruction, rest: str) -> str:
@@ -303,7 +392,7 @@ def script_of(instruction: Instruction, rest: str) -> str:
 
 
 def plan(
-    text: str, build_args: dict[str, str], target: str | None, base_of: Callable[[str], Base], shared_as: str = "shared"
+    text: str, build_args: dict[str, str], target: str | None, base_of: Callable[[str], Base], shared_as: str = "shared", reader: Reader = BUILDAH
 ) -> Plan:
     """What a Dockerfile wants, and what the builder gets to read."""
-    return Planner(text, build_args, base_of, shared_as).plan(target)
+    return Planner(text, build_args, base_of, shared_as, reader).plan(target)

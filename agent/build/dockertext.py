@@ -1,7 +1,7 @@
 """The text of a Dockerfile as instructions, each character with its place in the source.
 
-Owes the filters nothing; owes the builder that lines, continuations, comments and quotes are read as buildah 1.28 reads them, and
-here-documents as BuildKit does.
+Owes the filters nothing; owes the builder that lines, continuations, comments and quotes are read as buildah 1.28 reads them, or BuildKit
+where that builds, and here-documents as BuildKit does. Where BuildKit's versions differ a text is refused.
 """
 from __future__ import annotations
 
@@ -10,6 +10,7 @@ from dataclasses import dataclass, field
 
 HEREDOC = re.compile(r"^(\d*)<<(-?)([^<]*)$")
 NAME = re.compile(r"[A-Za-z_][A-Za-z0-9_]*")
+DIRECTIVES = ("syntax", "escape")  # any other line ends them, in each BuildKit
 DIRECTIVE = re.compile(r"#\s*([A-Za-z][A-Za-z0-9]*)\s*=\s*(.+?)\s*$")
 
 
@@ -101,8 +102,8 @@ def heredocs_of(text: str) -> list[Heredoc]:
 class _Reader:
     """Goes over the source's lines."""
 
-    def __init__(self, text: str) -> None:
-        self.length = len(text)
+    def __init__(self, text: str, is_buildkit: bool) -> None:
+        self.length, self.is_buildkit = len(text), is_buildkit
         self.lines: list[tuple[int, str]] = []
         at = 0
         for raw in text.split("\n"):  # and at none of Unicode's other line ends
@@ -144,16 +145,19 @@ class _Reader:
         if self.may_direct and match and match[1].lower() == "escape":
             if match[2] not in ("\\", "`"):
                 raise BadDockerfile(number + 1, f"escape character {match[2]}")
-            if match[2] == "`" and number:
+            if match[2] == "`" and number and not self.is_buildkit:
                 raise BadDockerfile(number + 1, "`# escape=` has to be the first line: buildah doesn't see it elsewhere")
             self.escape = match[2]
-        self.may_direct = self.may_direct and bool(match)
+        self.may_direct = self.may_direct and bool(match) and (not self.is_buildkit or match is not None and match[1].lower() in DIRECTIVES)
 
     def _joined(self, line: str, start: int) -> list[tuple[str, int]]:
         """A line and those that continue it. Comments and empty lines among these are no part of it."""
-        ends = re.compile(re.escape(self.escape) + r"[ \t]*$")
+        mark = re.escape(self.escape)
+        ends, ends_twice = re.compile(f"{mark}[ \\t]*$"), re.compile(f"{mark}{mark}[ \\t]*$")
         chars: list[tuple[str, int]] = []
         while True:
+            if self.is_buildkit and ends_twice.search(line):
+                raise BadDockerfile(self.next, f"it ends with {self.escape * 2}: BuildKit's versions differ on whether the next line belongs to it")
             found = ends.search(line)
             kept = line[: found.start()] if found else line
             chars += [(c, start + k) for k, c in enumerate(kept)]
@@ -183,8 +187,8 @@ class _Reader:
             self.next = after
 
 
-def instructions(text: str) -> list[Instruction]:
-    reader = _Reader(text)
+def instructions(text: str, is_buildkit: bool = False) -> list[Instruction]:
+    reader = _Reader(text, is_buildkit)
     found = []
     while reader.next < len(reader.lines):
         made = reader.instruction()

@@ -1,4 +1,4 @@
-"""The cache mounts of a RUN: which folder each wants, and what the builder gets to read in its place.
+"""The cache mounts of a RUN, and which folder each wants.
 
 Owes the filters that no id becomes a path, and that what can't be carried out is refused by its name and line.
 """
@@ -9,7 +9,7 @@ import re
 from dataclasses import dataclass
 
 from agent.build.dockertext import BadDockerfile
-from agent.words import SHARINGS, folder_text, short_name
+from agent.words import SHARINGS, folder_text
 
 
 @dataclass
@@ -26,16 +26,6 @@ class Mount:
     @property
     def folder(self) -> str:
         return folder_text(self.sharing, self.id)
-
-    @property
-    def place(self) -> str:
-        """The id that the builder sees: a plain name, whatever the id holds."""
-        return short_name(self.folder)
-
-    @property
-    def word(self) -> str:
-        """The builder gets no sharing: its own lock of one would wait for itself where a RUN has two mounts of a folder."""
-        return f"--mount=type=cache,id={self.place},target={self.target}" + ("" if self.writable else ",readonly")
 
 
 class _Parts:
@@ -86,7 +76,7 @@ def mount_of(line: int, word: str, shared_as: str) -> Mount | None:
         return None
     begins = parts.take("from")
     if begins:
-        raise parts.refuse(f"from={begins} isn't carried out: the builder mounts the stage itself, writable, and keeps no cache")
+        raise parts.refuse(f"from={begins} isn't carried out: a leased folder begins with its last version, and with no stage")
     source = parts.take("source", "src")
     if source and source != "/":
         raise parts.refuse(f"source={source} isn't carried out: without a `from` there is nothing that it lies in")

@@ -151,10 +151,20 @@ def _build_words(verbs: Any) -> None:
     )
     build.add_argument("--node", type=node, metavar="N")
     build.add_argument("-f", "--file", type=path, metavar="Dockerfile")
-    build.add_argument("-t", "--tag")
+    build.add_argument("-t", "--tag", action="append", default=[], metavar="NAME")
+    build.add_argument("--builder", choices=["buildah", "docker"], default="buildah", help="docker: the BuildKit of this machine's Docker (%(default)s)")
+    build.add_argument("--shares-daemon", action="store_true", help="lets several nodes build by one Docker daemon, each with its own copies")
     build.add_argument("--build-arg", action="append", default=[], metavar="K=V")
     build.add_argument("--target", metavar="STAGE")
     build.add_argument("--format", choices=["oci", "docker"])
+    for name in ("--network", "--progress", "--platform"):
+        build.add_argument(name, help="as of docker build")
+    for name in ("--no-cache", "--pull", "--push"):
+        build.add_argument(name, action="store_true", help="as of docker build")
+    build.add_argument("-q", "--quiet", action="store_true", help="shows the image's id alone")
+    build.add_argument("--iidfile", type=path, metavar="FILE", help="writes the image's id there")
+    for name in ("--secret", "--ssh", "--cache-from", "--build-context"):
+        build.add_argument(name, action="append", default=[], help="as of docker build")
     build.add_argument("--wait", type=seconds, metavar="SECONDS")
     build.add_argument("--on-lost", choices=["stop", "go-on"], default="go-on")
     build.add_argument("--shared-as", choices=["shared", "locked", "private", "merged"], default="shared", help="treats shared mounts so")

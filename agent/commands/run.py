@@ -14,7 +14,7 @@ from typing import Iterator
 
 from agent.faults import MISSING, USAGE, FarmFault, UsageFault, tell
 from agent.service import client
-from agent.service.requests import BUILD_ENV, BuildRequest, NodeRequest, NodeWasRetired, RunRequest
+from agent.service.requests import NodeRequest, NodeWasRetired, RunRequest
 from agent.words import want_of
 
 SERVED = "/var/lib/farm"  # where the units of the package have their homes
@@ -99,11 +99,15 @@ def ask_running(home: str, node: int | None, request: NodeRequest) -> client.Ask
 
 
 def ask_node(home: str, node: int | None, request: NodeRequest) -> int:
+    return ask_for(home, node, request).status
+
+
+def ask_for(home: str, node: int | None, request: NodeRequest) -> client.Asked:
     """Asks a node, and starts a farm for it where none runs here."""
     for turn in range(6):
         with contextlib.suppress(client.NoFarm):
             if asked := ask_running(home, node, request):
-                return asked.status
+                return asked
             if turn > 3 or not client.is_there(f"{home}/coordinator.sock"):
                 start_for(home, node)
                 continue
@@ -146,15 +150,6 @@ def do_run(args: argparse.Namespace) -> int:
 
 
 def do_build(args: argparse.Namespace) -> int:
-    from agent.build.builder import check_tag
+    from agent.commands.build import request_of, take_built
 
-    if args.tag is not None:
-        check_tag(args.tag)
-    given = [word.partition("=") for word in args.build_arg]
-    return ask_node(args.home, args.node, BuildRequest(
-        cwd=own_folder(), context=os.path.abspath(args.context), file=args.file, tag=args.tag, target=args.target,
-        build_args={key: value if equals else os.environ[key] for key, equals, value in given if equals or key in os.environ},
-        format=args.format, wait=args.wait, stops_when_lost=args.on_lost == "stop", shared_as=args.shared_as,
-        keep_failed=args.keep_failed, tag_fenced=args.tag_fenced, env={key: value for key, value in os.environ.items() if key in BUILD_ENV},
-        on_conflict=args.on_conflict, tells_conflicts=args.verbose,
-    ))
+    return take_built(args, ask_for(args.home, args.node, request_of(args)))

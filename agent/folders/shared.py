@@ -9,7 +9,7 @@ import contextlib
 import threading
 import time
 from dataclasses import dataclass
-from typing import TYPE_CHECKING, Callable, Iterable
+from typing import TYPE_CHECKING, Callable, Iterable, Protocol
 
 from agent.runs.caller import LATE, Caller, Patience
 from agent.faults import ClientGone, FarmFault, LifeOver, sentence
@@ -18,6 +18,7 @@ from agent.tools import LOOK
 from agent.words import Slot, short_name
 
 if TYPE_CHECKING:
+    from agent.build.builder import CacheMount
     from agent.filters.node import NodeAgent
 
 MOST_DELAYED = 64
@@ -30,6 +31,16 @@ class Closed:
     said: str
     is_lost: bool = False
     is_left: bool = False  # nobody waits any more for what comes of it
+
+
+class Home(Protocol):
+    """Where a builder has the folders of leases, if that isn't a folder of the node's. `Builder` says what each of these does."""
+
+    def enter(self, room: str, slots: Iterable[str], check: Callable[[], None]) -> list[CacheMount]: ...
+
+    def still(self, held: Iterable[CacheMount], check: Callable[[], None]) -> None: ...
+
+    def leave(self, held: Iterable[CacheMount], ended_well: bool) -> None: ...
 
 
 @dataclass
@@ -46,9 +57,18 @@ class Tenure:
     closing: bool = False
     used: bool = False  # an execution began under it
     end: Closed | None = None  # what came of it, once it is closed
+    home: Home | None = None
+    mount: CacheMount | None = None  # its own there
+    ended_well: bool = True  # each build that had it
 
-    def why_not(self) -> str:
+    def has_home(self, home: Home | None) -> bool:
+        """Whether who wants it there may enter it: any place will do to be bound."""
+        return home is None or self.home is home
+
+    def why_not(self, home: Home | None) -> str:
         """Why nobody enters it."""
+        if not self.recalled and not self.closing and not self.has_home(home):
+            return "commands have it here that aren't builds of this builder"
         return "it is being closed here" if self.closing else "another node wants it, so those who have it here end first"
 
 
@@ -84,15 +104,15 @@ class SharedFolders:
         for line in lines:
             self.agent.call("m " + line)
 
-    def enter(self, folder: str, epoch: int, patience: Patience, prepare: Callable[[Tenure], None]) -> Tenure:
-        """Counts an execution in, under a tenure that nobody recalled. Where the folder isn't open it is opened."""
+    def enter(self, folder: str, epoch: int, patience: Patience, prepare: Callable[[Tenure], None], home: Home | None = None) -> Tenure:
+        """Counts an execution in, under a tenure that nobody recalled. Where the folder isn't open it is opened, in this home."""
         while True:
             with self.changed:
                 tenure = self.tenures.get(folder)
                 if tenure and tenure.epoch != epoch:
                     del self.tenures[folder]  # it ended with its life
                     continue
-                if tenure and not tenure.recalled and not tenure.closing:
+                if tenure and not tenure.recalled and not tenure.closing and tenure.has_home(home):
                     tenure.users += 1
                     return tenure
                 if not tenure and folder not in self.opening:
@@ -103,13 +123,13 @@ class SharedFolders:
                 raise LifeOver("the node began a new life")
             patience.check()
             if is_told:
-                patience.say(f"waiting for {folder}: {tenure.why_not() if tenure else 'another command is opening it here'}")
-        return self._enter_first(folder, epoch, patience, prepare)
+                patience.say(f"waiting for {folder}: {tenure.why_not(home) if tenure else 'another command is opening it here'}")
+        return self._enter_first(folder, epoch, patience, prepare, home)
 
-    def _enter_first(self, folder: str, epoch: int, patience: Patience, prepare: Callable[[Tenure], None]) -> Tenure:
+    def _enter_first(self, folder: str, epoch: int, patience: Patience, prepare: Callable[[Tenure], None], home: Home | None) -> Tenure:
         """Opens a folder, and counts in the execution for which it is opened."""
         try:
-            opened = self._open(folder, epoch, patience, prepare)
+            opened = self._open(folder, epoch, patience, prepare, home)
             with self.changed:
                 opened.recalled = opened.ticket in self.recalled
                 opened.users = 1
@@ -127,9 +147,10 @@ class SharedFolders:
             for tenure in self.tenures.values():
                 tenure.recalled = tenure.recalled or tenure.ticket == ticket
 
-    def _open(self, folder: str, epoch: int, patience: Patience, prepare: Callable[[Tenure], None]) -> Tenure:
+    def _open(self, folder: str, epoch: int, patience: Patience, prepare: Callable[[Tenure], None], home: Home | None) -> Tenure:
         agent = self.agent
         ask: int | None = None
+        mount: CacheMount | None = None
 
         def is_asked() -> bool:
             nonlocal ask
@@ -142,22 +163,26 @@ class SharedFolders:
         try:
             agent.begin(grant.ticket, epoch, patience)
             slot = grant.slots[0]
-            path = f"{agent.home}/shared/{short_name(folder)}"
+            mount = home.enter(agent.home, [slot.name], patience.check)[0] if home else None
+            path = mount.path if mount else f"{agent.home}/shared/{short_name(folder)}"
             with agent.places.held(path, patience.check):
                 agent.fill(slot, path, epoch, patience)
-            tenure = Tenure(ask, grant.ticket, slot, path, epoch)
+            tenure = Tenure(ask, grant.ticket, slot, path, epoch, home=home, mount=mount)
             prepare(tenure)
             return tenure
         except BaseException:
+            if home and mount:
+                home.leave([mount], False)
             agent.give_back(grant.ticket, epoch)
             raise
 
-    def leave(self, folder: str, tenure: Tenure, caller: Caller, waits: bool = False) -> Closed:
+    def leave(self, folder: str, tenure: Tenure, caller: Caller, *, ended_well: bool = True, waits: bool = False) -> Closed:
         """Counts an execution out, once its own lease has ended. The last one closes the folder. What came of that; one that isn't the last
         waits for it only where it is to. A caller may leave meanwhile, and the folder is closed all the same: what others wrote there
         counts too."""
         with self.changed:
             tenure.users -= 1
+            tenure.ended_well = tenure.ended_well and ended_well
             is_last = not tenure.users and not tenure.closing
             tenure.closing = tenure.closing or is_last
         if not is_last:
@@ -184,6 +209,8 @@ class SharedFolders:
             end = self._ended(folder, tenure, patience)
             return end
         finally:
+            if tenure.home and tenure.mount:
+                tenure.home.leave([tenure.mount], not end.is_lost and tenure.ended_well)
             with self.changed:
                 tenure.end = end
                 if self.tenures.get(folder) is tenure:
@@ -207,7 +234,12 @@ class SharedFolders:
         if not tenure.used:
             self._given_up(tenure, f"abort {tenure.ticket}")
             return Closed(f"{folder} is given back as it was")
-        index, _ = agent.places.keep(agent.store, tenure.path, patience.say)
+        if tenure.home and tenure.mount:
+            tenure.home.still([tenure.mount], lambda: None)
+        index, digest = agent.places.keep(agent.store, tenure.path, patience.say)
+        if tenure.home and digest == slot.digest:
+            self._given_up(tenure, f"abort {tenure.ticket}")
+            return Closed(f"{folder} is given back: nothing was changed in it, so there is no new version")
         with agent.places.rooms.file(index) as file:
             note = self._given_up(tenure, line_of("finish", str(tenure.ticket), f"{slot.name}={file}"))
         if note != f"finished {tenure.ticket}":

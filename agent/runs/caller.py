@@ -24,6 +24,9 @@ class Caller(Protocol):
     def say(self, text: str) -> None:
         """Tells it something, in one line."""
 
+    def tell(self, what: object) -> None:
+        """Tells its program something."""
+
 
 class Patience:
     """How long a caller waits for a lease."""

@@ -18,21 +18,33 @@ from agent.faults import LOST, ClientGone, FarmFault, LifeOver, NodeRetired, Usa
 from agent.filters.lines import line_of
 from agent.filters.node import Ending, NodeAgent
 from agent.folders.places import check_apart, path_order, place_of
-from agent.folders.shared import Closed, Tenure
+from agent.folders.shared import Closed, Home, Tenure
 from agent.tools import LOOK, need
 from agent.words import MOST_FOLDERS, Grant, Slot, Want
 
 PATIENCE = 10.0  # seconds from the signal that asks a lost execution to stop to the one that ends it
 
 
+@dataclass(frozen=True)
+class Placed:
+    """A command that is known only under its lease, and where it finds each folder."""
+
+    command: list[str]
+    env: dict[str, str]
+    paths: dict[str, str]
+
+
 @dataclass(frozen=True, kw_only=True)
 class Job:
     """A command and what it wants."""
 
-    command: list[str]
+    command: list[str]  # with its environment; where it is placed these are told then
     cwd: str
     env: dict[str, str]
     wants: list[Want]
+    place: Callable[[dict[str, str], dict[str, Tenure]], Placed] | None = None  # by the slots of the folders, and the open ones
+    home: Home | None = None  # of SHARED folders
+    skips_unchanged: bool = False  # whether a lease of which nothing was changed is given back
     wait: float | None = None  # seconds for the lease
     stops_when_lost: bool = False
     keeps_failed: bool = False  # whether what a failed command left is committed too
@@ -41,7 +53,7 @@ class Job:
     must_commit: bool = False  # whether it waits for the commit of SHARED folders that others use too
     of_shared: str = ""  # what is said where it waits for a SHARED folder
     filled: Callable[[Want, str, bool], None] = field(default=lambda want, path, is_new: None)
-    left: Callable[[Want, str], None] = field(default=lambda want, path: None)
+    left: Callable[[dict[str, str]], None] = field(default=lambda paths: None)  # where it left each folder, before that is kept
     umask: int | None = None
     on_conflict: str = "newer"  # whose a path is that a merged folder's others changed too
     tells_conflicts: bool = False  # each by its path
@@ -57,6 +69,7 @@ class Run:
         self.finished = False  # whether what it left was handed to the filter
         self.patience = Patience(caller, job.wait, job.of_shared)
         self.stopped = False  # because its lease had ended
+        self.ended: int | None = None  # the command's status
         self.how = "lost"  # what came of it: `failed`, `committed`, `released`, `fenced`
         self.leased = [want for want in job.wants if not want.is_merged]
         self.merged = sorted((want for want in job.wants if want.is_merged), key=lambda want: want.folder)
@@ -64,14 +77,15 @@ class Run:
         self.counts = False  # whether what it left in the folders of its lease counts
         if len(job.wants) > MOST_FOLDERS:
             raise UsageFault(f"{len(job.wants)} folders: one lease has at most {MOST_FOLDERS}")
-        self.paths = {want.folder: place_of(want.path, job.cwd) for want in job.wants}
+        self.command, self.env = job.command, job.env
+        self.paths = {} if job.place else {want.folder: place_of(want.path, job.cwd) for want in job.wants}
         check_apart(list(self.paths.values()))
         lines = {want.folder.replace("merged:", "locked:", 1) if want.is_merged else want.folder for want in job.wants}
         if len(lines) < len(job.wants):
             raise UsageFault("a folder is named twice")
 
     def run(self) -> int:
-        if any(want.is_shared for want in self.job.wants) and not self.agent.executions.has_namespaces:
+        if any(want.is_shared for want in self.job.wants) and not self.job.home and not self.agent.executions.has_namespaces:
             raise FarmFault("SHARED folders are bound in a mount namespace, and the kernel lets this agent have none: run it as root")
         if self.merged and not self.agent.executions.has_namespaces:
             raise FarmFault("merged folders are bound in a mount namespace, and the kernel lets this agent have none: run it as root")
@@ -113,9 +127,10 @@ class Run:
     def _run_unleased(self) -> int:
         """Runs a command all of whose folders are merged."""
         with contextlib.ExitStack() as held:
-            self._hold_paths(held)
+            self._place({}, {})
+            self._hold_paths(held, {})
             status = self._command(None, {}, self._merged_binds())
-        self._left()
+        self._left({})
         self.counts = not status or self.job.keeps_failed
         self.how = "committed" if self.counts else "failed"
         if not self.counts:
@@ -163,7 +178,8 @@ class Run:
             status = None if ask is None else self._run_asked(ask, tenures)
         finally:
             for folder, tenure in tenures.items():
-                ends.append(self.agent.shared.leave(folder, tenure, self.caller, waits=self.job.must_commit))
+                ended_well = self.ended == 0 or not self.begun
+                ends.append(self.agent.shared.leave(folder, tenure, self.caller, ended_well=ended_well, waits=self.job.must_commit))
                 self.caller.say(ends[-1].said)
         if status == 0 and any(closed.is_left for closed in ends):
             raise ClientGone("nobody waits for it any more")
@@ -173,19 +189,24 @@ class Run:
         def prepare(tenure: Tenure) -> None:
             self.job.filled(want, tenure.path, tenure.slot.base == 0)
 
-        return self.agent.shared.enter(want.folder, self.epoch, self.patience, prepare)
+        return self.agent.shared.enter(want.folder, self.epoch, self.patience, prepare, self.job.home)
 
     def _run_asked(self, ask: int, tenures: dict[str, Tenure]) -> int:
         folders = [want.folder for want in self.leased]
         grant = self.agent.granted(ask, folders, self.epoch, self.patience)
         try:
             with contextlib.ExitStack() as held:
-                status, index_files = self._execute(grant, tenures, held)
+                status, index_files, is_changed = self._execute(grant, tenures, held)
                 if status and not self.job.keeps_failed:
                     self.agent.give_back(grant.ticket, self.epoch)
                     self.caller.say(f"released {grant.ticket}: the command failed, and nothing of it is kept")
                     self.how = "fenced" if self.stopped else "failed"
                     return self.job.fenced_status or status if self.stopped else status
+                if not is_changed and self.job.skips_unchanged:
+                    self.agent.give_back(grant.ticket, self.epoch)
+                    self.caller.say(f"released {grant.ticket}: nothing was changed in its folders, so there is no new version")
+                    self.how, self.counts = "released", True
+                    return status
                 words = [f"{slot}={file}" for slot, file in index_files]
                 note = self.agent.call(line_of("finish", str(grant.ticket), *words), self.epoch).note
                 if note != f"finished {grant.ticket}":
@@ -201,45 +222,58 @@ class Run:
         finally:
             self.agent.ended.discard(grant.ticket)
 
-    def _execute(self, grant: Grant, tenures: dict[str, Tenure], held: contextlib.ExitStack) -> tuple[int, list[tuple[str, str]]]:
-        """Fills the folders, runs the command, and keeps what it left: its status, and each slot with the file of its index."""
+    def _execute(self, grant: Grant, tenures: dict[str, Tenure], held: contextlib.ExitStack) -> tuple[int, list[tuple[str, str]], bool]:
+        """Fills the folders, runs the command, and keeps what it left: its status, each slot with the file of its index, and whether any of
+        them isn't the version that it began from."""
         agent = self.agent
         agent.begin(grant.ticket, self.epoch, self.patience)
         slots = {slot.folder: slot for slot in grant.slots}
+        self._place({folder: slot.name for folder, slot in slots.items()}, tenures)
         binds = self._merged_binds()
-        self._hold_paths(held)
+        self._hold_paths(held, tenures)
         for want in self.leased:
             path = self.paths[want.folder]
-            if want.is_shared:
+            if not want.is_shared:
+                self._fill(want, slots[want.folder], path)
+            elif path != tenures[want.folder].path:
                 agent.places.clear(path)
                 binds.append((tenures[want.folder].path, path, want.writable))
-            else:
-                self._fill(want, slots[want.folder], path)
         try:
-            status = self._command(grant, tenures, binds)
+            status = self.ended = self._command(grant, tenures, binds)
         finally:
             for want in self.leased:
                 if not want.is_shared:
                     agent.places.left(self.paths[want.folder])
-        self._left()
+        self._left(tenures)
         if status and not self.job.keeps_failed:
-            return status, []
-        return status, [(slot.name, held.enter_context(self._kept(slot))) for slot in grant.slots if slot.writable]
+            return status, [], False
+        kept = [(slot, *self._kept(slot)) for slot in grant.slots if slot.writable]
+        files = [(slot.name, held.enter_context(agent.places.rooms.file(index))) for slot, index, _ in kept]
+        return status, files, not kept or any(digest != slot.digest for slot, _, digest in kept)
+
+    def _place(self, slots: dict[str, str], tenures: dict[str, Tenure]) -> None:
+        """Learns the command and its paths, where they are told only under the lease."""
+        if self.job.place:
+            merged = {folder: own.slot for folder, own in self.owns.items()}
+            placed = self.job.place(slots | merged, tenures)
+            self.command, self.env, self.paths = placed.command, placed.env, placed.paths
+            check_apart(list(self.paths.values()))
 
     def _merged_binds(self) -> list[tuple[str, str, bool]]:
         return [(self.owns[want.folder].held.path, self.paths[want.folder], want.writable) for want in self.merged]
 
-    def _hold_paths(self, held: contextlib.ExitStack) -> None:
-        """Takes the command's paths, in an order in which no two runs wait for each other's."""
+    def _hold_paths(self, held: contextlib.ExitStack, tenures: dict[str, Tenure]) -> None:
+        """Takes the command's paths, in an order in which no two runs wait for each other's. That of a tenure all its users have."""
+        shared = {tenure.path for tenure in tenures.values()}
         merged = {self.paths[want.folder] for want in self.merged}
-        for path in sorted(self.paths.values(), key=path_order):
+        for path in sorted(set(self.paths.values()) - shared, key=path_order):
             check = self._waits_for(path)
             places = self.agent.places
             held.enter_context(TARGETS.held(places, path, check) if path in merged else places.held(path, check))
 
-    def _left(self) -> None:
-        for want in self.job.wants:
-            self.job.left(want, self.owns[want.folder].held.path if want.is_merged else self.paths[want.folder])
+    def _left(self, tenures: dict[str, Tenure]) -> None:
+        merged = {folder: own.held.path for folder, own in self.owns.items()}
+        self.job.left(self.paths | merged | {folder: tenure.path for folder, tenure in tenures.items()})
 
     def _waits_for(self, path: str) -> Callable[[], None]:
         def check() -> None:
@@ -252,15 +286,15 @@ class Run:
         self.agent.fill(slot, path, self.epoch, self.patience)
         self.job.filled(want, path, slot.base == 0)
 
-    def _kept(self, slot: Slot) -> contextlib.AbstractContextManager[str]:
-        """Keeps what a slot's path holds. The file of its index."""
+    def _kept(self, slot: Slot) -> tuple[bytes, str]:
+        """Keeps what a slot's path holds: its index, and the digest of that."""
         patience = Patience(self.caller, None)
 
         def away(why: str) -> None:
             patience.say(why)
             patience.check()
 
-        return self.agent.places.rooms.file(self.agent.places.keep(self.agent.store, self.paths[slot.folder], away, patience.check)[0])
+        return self.agent.places.keep(self.agent.store, self.paths[slot.folder], away, patience.check)
 
     def _command(self, grant: Grant | None, tenures: dict[str, Tenure], binds: list[tuple[str, str, bool]]) -> int:
         agent, job = self.agent, self.job
@@ -275,7 +309,7 @@ class Run:
             self.begun = True
             for tenure in tenures.values():
                 tenure.used = True
-            execution = executions.start(job.command, job.cwd, job.env, self.caller.streams, binds, job.umask)
+            execution = executions.start(self.command, job.cwd, self.env, self.caller.streams, binds, job.umask)
         self.caller.signalled = execution.signal
         if grant:
             agent.running.add(grant.ticket)

@@ -30,6 +30,22 @@ class RunRequest(NamedTuple):
     tells_conflicts: bool = False
 
 
+class BuildOptions(NamedTuple):
+    """What a build leaves to its builder, as `docker build` spells it."""
+
+    network: str | None = None
+    progress: str | None = None
+    platform: str | None = None
+    quiet: bool = False
+    no_cache: bool = False
+    pull: bool = False
+    secrets: tuple[str, ...] = ()
+    ssh: tuple[str, ...] = ()
+    cache_from: tuple[str, ...] = ()
+    contexts: tuple[str, ...] = ()  # NAME=VALUE
+    logins: str | None = None  # the caller's, as in Docker's config.json
+
+
 class BuildRequest(NamedTuple):
     """Builds a Dockerfile under leases."""
 
@@ -38,7 +54,12 @@ class BuildRequest(NamedTuple):
     build_args: dict[str, str]
     env: dict[str, str]
     file: str | None = None
-    tag: str | None = None
+    tags: tuple[str, ...] = ()
+    push: bool = False
+    builder: str = "buildah"
+    daemon: str = ""  # the address of Docker's
+    shares_daemon: bool = False  # with other nodes
+    options: BuildOptions = BuildOptions()
     target: str | None = None
     format: str | None = None
     wait: float | None = None
@@ -77,6 +98,10 @@ class NodeWasRetired(NamedTuple):
     why: str
 
 
+class Built(NamedTuple):
+    image: str
+
+
 class Forgotten(NamedTuple):
     contents: int
 
@@ -93,4 +118,4 @@ class StorePlace(NamedTuple):
 
 
 NodeRequest = RunRequest | BuildRequest | ForgetRequest | NeededRequest | StoreRequest
-NodeTold = NodeWasRetired | Forgotten | Digests | StorePlace
+NodeTold = NodeWasRetired | Built | Forgotten | Digests | StorePlace

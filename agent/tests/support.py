@@ -83,6 +83,9 @@ class Heard:
     def say(self, text: str) -> None:
         self.said.append(text)
 
+    def tell(self, what: object) -> None:
+        self.said.append(str(what))
+
 
 def setup_of(room: str, program: str, transport: Transport) -> Setup:
     """What an agent of a test is made of."""

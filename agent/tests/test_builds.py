@@ -10,9 +10,11 @@ import subprocess
 import unittest
 from unittest import mock
 
-from agent.build.builder import Buildah, Image, check_tag
+from agent.build.buildah import Buildah
+from agent.build.builder import Image, check_tag
 from agent.runs.executions import can_have_namespaces
 from agent.faults import FarmFault
+from agent.service.requests import BuildOptions
 
 from agent.tests import support
 
@@ -198,7 +200,7 @@ class Refused(support.FarmTest):
         for tag in GOOD_TAGS:
             check_tag(tag)
         with mock.patch("os.geteuid", return_value=1), self.assertRaisesRegex(FarmFault, "as root"):
-            Buildah(self.home).base_of("x", lambda: None)
+            Buildah(self.home).base_of("x", BuildOptions(), lambda: None)
 
 
 if __name__ == "__main__":

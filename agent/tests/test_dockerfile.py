@@ -4,8 +4,12 @@ from __future__ import annotations
 import re
 import unittest
 
+from agent.build.buildah import Buildah
+from agent.build.builder import CacheMount
 from agent.build.dockerfile import Base, Plan, plan
 from agent.build.dockertext import BadDockerfile, instructions
+from agent.build.mounts import Mount
+from agent.words import short_name
 
 T = "--mount=type=cache"
 PLACE = re.compile(r"id=farm-[0-9a-f]{32},target=/")
@@ -21,6 +25,15 @@ def base(name: str) -> Base:
 
 def planned(text: str, target: str | None = None, shared_as: str = "shared", **args: str) -> Plan:
     return plan(text, args, target, base, shared_as)
+
+
+def word(mount: Mount) -> str:
+    return Buildah("").word(mount, CacheMount(mount.folder, short_name(mount.folder), ""))
+
+
+def read(made: Plan) -> str:
+    """What buildah gets to read."""
+    return made.text(word)
 
 
 # A Dockerfile, and the ids that its lease wants. What buildah 1.28 makes of the originals is the same.
@@ -99,9 +112,9 @@ class Dockerfiles(unittest.TestCase):
             with self.subTest(name):
                 made = planned(text)
                 self.assertEqual([mount.id for mount in made.mounts], wanted)
-                self.assertEqual(len(PLACE.findall(made.text)), len(wanted))
-                again = planned(made.text)
-                self.assertEqual([mount.id for mount in again.mounts], [mount.place for mount in made.mounts])
+                self.assertEqual(len(PLACE.findall(read(made))), len(wanted))
+                again = planned(read(made))
+                self.assertEqual([mount.id for mount in again.mounts], [short_name(mount.folder) for mount in made.mounts])
 
     def test_refused(self) -> None:
         for text, why in REFUSED:
@@ -111,15 +124,15 @@ class Dockerfiles(unittest.TestCase):
     def test_nothing_else_changes(self) -> None:
         text = f"FROM box\n# c\nRUN  {T},target=/a   echo '{T},target=/b'  \\\n && true\nCOPY a b\n"
         made = planned(text)
-        self.assertEqual(made.text, text.replace(f"{T},target=/a", made.mounts[0].word, 1))
+        self.assertEqual(read(made), text.replace(f"{T},target=/a", word(made.mounts[0]), 1))
 
     def test_modes(self) -> None:
         made = planned(f"FROM box\nRUN {T},target=/a {T},target=/b,sharing=locked,ro {T},target=/c,sharing=private,uid=5,gid=6,mode=0700 true")
         self.assertEqual([m.folder for m in made.mounts], ["shared:/a", "locked:/b", "private:/c"])
         self.assertEqual([m.writable for m in made.mounts], [True, False, True])
         self.assertEqual((made.mounts[2].uid, made.mounts[2].gid, made.mounts[2].mode), (5, 6, 0o700))
-        self.assertTrue(made.mounts[1].word.endswith(",readonly"))
-        self.assertNotIn("sharing", made.text)
+        self.assertTrue(word(made.mounts[1]).endswith(",readonly"))
+        self.assertNotIn("sharing", read(made))
         for readonly, writable in (("ro", False), ("readonly=false", True), ("rw=false", False), ("rw", True), ("ro=true,rw=0", False)):
             self.assertEqual(planned(f"FROM box\nRUN {T},target=/a,{readonly} true").mounts[0].writable, writable, readonly)
 
@@ -131,8 +144,8 @@ class Dockerfiles(unittest.TestCase):
         for identifier in ("../../../etc", "/etc/passwd", "..", ".", "a/b", "x" * 4000, "a%0Ab", "é" * 2000, "a;b", "-rf"):
             made = planned(f"FROM box\nARG I\nRUN {T},id=$I,target=/c true", I=identifier)
             self.assertEqual(made.mounts[0].id, identifier)
-            self.assertRegex(made.mounts[0].place, r"\Afarm-[0-9a-f]{32}\Z")
-            self.assertNotIn(identifier if len(identifier) > 2 else "id=" + identifier, made.text)
+            self.assertRegex(short_name(made.mounts[0].folder), r"\Afarm-[0-9a-f]{32}\Z")
+            self.assertNotIn(identifier if len(identifier) > 2 else "id=" + identifier, read(made))
             self.assertRegex(made.mounts[0].folder, r"\Ashared:[!-~]*\Z")
         made = planned(f"FROM box\nARG I\nRUN {T},id=$I,target=/c true", I="two\nlines")
         self.assertEqual(made.mounts[0].folder, "shared:two%0Alines")
@@ -153,9 +166,9 @@ class Dockerfiles(unittest.TestCase):
         for target, wanted in rows:
             made = planned(text, target)
             self.assertEqual([mount.id for mount in made.mounts], wanted, target)
-            self.assertEqual(len(re.findall(r"--mount", made.text)), len(wanted))
-            self.assertEqual(made.text.count("FROM"), 5)
-        self.assertEqual([i.line for i in instructions(planned(text).text)][-2:], [14, 15])
+            self.assertEqual(len(re.findall(r"--mount", read(made))), len(wanted))
+            self.assertEqual(read(made).count("FROM"), 5)
+        self.assertEqual([i.line for i in instructions(read(planned(text)))][-2:], [14, 15])
         for target in ("two", "2"):
             with self.assertRaises(BadDockerfile):
                 planned(text, target)
@@ -181,9 +194,9 @@ class Dockerfiles(unittest.TestCase):
             ('SHELL ["/bin/sh", "-xc"]\nRUN <<EOF\na\nEOF\n', 'SHELL ["/bin/sh", "-xc"]\nRUN ["/bin/sh", "-xc", "a\\n"]'),
         ]
         for text, wanted in rows:
-            self.assertEqual(planned(f"FROM box\n{text}RUN b\n").text, f"FROM box\n{wanted}\nRUN b\n")
+            self.assertEqual(read(planned(f"FROM box\n{text}RUN b\n")), f"FROM box\n{wanted}\nRUN b\n")
         made = planned(f"FROM other\nRUN {T},target=/c <<EOF\nls\nEOF\n")
-        self.assertEqual(made.text, f'FROM other\nRUN {made.mounts[0].word} ["/bin/bash", "-ec", "ls\\n"]\n')
+        self.assertEqual(read(made), f'FROM other\nRUN {word(made.mounts[0])} ["/bin/bash", "-ec", "ls\\n"]\n')
 
 
 if __name__ == "__main__":

@@ -21,6 +21,8 @@ from typing import Callable, Iterator
 sys.dont_write_bytecode = True
 sys.path.insert(0, str(Path(__file__).resolve().parents[2]))
 
+from agent.build.docker import cli  # noqa: E402
+from agent.faults import Missing  # noqa: E402
 from agent.runs.executions import can_have_namespaces  # noqa: E402
 from agent.tools import TOP, farm_program  # noqa: E402
 from agent.trials.farms import PYTHON_FARM  # noqa: E402
@@ -123,7 +125,7 @@ def check_lines(home: str, out: str, wanted: list[list[str]]) -> None:
 def suites(room: str) -> str:
     """The agent's tests of whole farms, over the program."""
     need_tools("casync")
-    suite = unittest.defaultTestLoader.loadTestsFromNames(["agent.tests.test_farm", "agent.tests.test_builds", "agent.tests.test_merged"])
+    suite = unittest.defaultTestLoader.loadTestsFromNames([f"agent.tests.test_{name}" for name in ("farm", "builds", "merged", "docker")])
     with open(f"{room}/tests", "w+") as said:
         result = unittest.TextTestRunner(stream=said).run(suite)
         said.seek(0)
@@ -189,6 +191,28 @@ def found(room: str, *words: str) -> str:
     raise Failed(said)
 
 
+def docker_builds(room: str) -> str:
+    """Builds by Docker's BuildKit."""
+    need_docker()
+    return tried("docker")
+
+
+def kept_ids(room: str) -> str:
+    """An agent keeps the ids of leases that didn't end well."""
+    need_docker()
+    return tried("docker", "--keep-ids")
+
+
+def need_docker() -> None:
+    need_tools("casync", "busybox", "dockerd", "docker")
+    if os.geteuid() or not can_have_namespaces():
+        raise Skipped("a Docker daemon wants root and namespaces")
+    try:
+        cli()
+    except Missing as why:
+        raise Skipped(str(why)) from None
+
+
 def early_agent(room: str) -> str:
     """An agent commits before its contents are kept."""
     need_tools("redis-server")
@@ -223,7 +247,9 @@ def need_namespaces() -> None:
         raise Skipped("merged folders want root and namespaces")
 
 
-TRIALS: list[Callable[[str], str]] = [starts, kills, main_job, suites, count, over_pipes, over_redis, early_agent, stale_agent, merged_folders, snapshot_agent]
+TRIALS: list[Callable[[str], str]] = [
+    starts, kills, main_job, suites, count, docker_builds, kept_ids, over_pipes, over_redis, early_agent, stale_agent, merged_folders, snapshot_agent,
+]
 
 
 def attempt(trial: Callable[[str], str]) -> str:

@@ -1,0 +1,208 @@
+"""Dockerfiles as BuildKit reads them, and what Docker's builder refuses; without a daemon."""
+from __future__ import annotations
+
+import os
+import re
+import unittest
+from unittest import mock
+
+from agent.build.builder import CacheMount
+from agent.build.cacheids import CacheIds
+from agent.build.docker import Docker
+from agent.build.dockerfile import Base, Plan, Reader, plan
+from agent.build.dockertext import BadDockerfile
+from agent.build.engine import host_path
+from agent.commands import build as words
+from agent.faults import FarmFault, UsageFault
+from agent.service.requests import BuildOptions
+from agent.tests import support
+from agent.tests.test_dockerfile import base
+
+T = "--mount=type=cache"
+OLD, NEW = Reader(True), Reader(True, True)  # Docker 20.10 and 23.0
+
+
+def planned(text: str, target: str | None = None, reader: Reader = NEW, **args: str) -> Plan:
+    return plan(text, args, target, base, reader=reader)
+
+
+def read(made: Plan) -> str:
+    """What BuildKit gets to read."""
+    return made.text(lambda mount: f"<{mount.folder}>")
+
+
+# A Dockerfile, and the ids that its lease wants, where BuildKit reads it otherwise than buildah.
+KIT: dict[str, tuple[str, list[str]]] = {
+    "the last of ENV and ARG": (f"FROM box\nENV V=env\nARG V=arg\nRUN {T},id=$V,target=/a true\nENV V=new\nRUN {T},id=$V,target=/a true\n", ["arg", "new"]),
+    "ARG of a stage before": (f"FROM box AS one\nARG I=up J=arg\nENV J=env\nFROM one\nRUN {T},id=$I$J,target=/a true\n", ["upenv"]),
+    "a later stage": (f"FROM box AS a\nFROM box AS last\nCOPY --from=late /x /x\nFROM box AS late\nRUN {T},id=l,target=/a true\nFROM last\n", ["l"]),
+    "escape after syntax": (f"# syntax=docker/dockerfile:1\n# escape=`\nFROM box\nRUN {T},id=e,`\ntarget=/a true\n", ["e"]),
+    "escape after a comment": ("# x\n# escape=`\nFROM box\nRUN echo `\nRUN echo\n", []),
+    "COPY of a here-document": (f"FROM box\nCOPY <<EOF /x\nRUN {T[:8]} x\nEOF\nRUN {T},target=/a true\n", ["/a"]),
+    "other flags": (f"FROM box\nCOPY --link --from=box /x /y\nRUN --network=none --security=sandbox {T},target=/a true\n", ["/a"]),
+    "another script": (f"FROM box\nRUN {T},target=/a <<EOF\n#!/bin/sh\ntrue\nEOF\n", ["/a"]),
+    "comments": (f"FROM box\n# RUN {T},target=/no true\nRUN true \\\n  # {T}\n  && true\n", []),
+    "variables elsewhere": ("FROM box\nARG D=/t\nRUN --mount=type=tmpfs,target=$D true\n", []),
+    # What BuildKit 0.8 wrote of these was that.
+    "odd ids": (
+        f"FROM box\nRUN {T},target=/1,id=a@b true\nRUN {T},target=/2,id=a#1,sharing=private true\nRUN {T},target=/3,id=100%,sharing=locked true\n"
+        f"RUN {T},target=/5,id=a&b=c;d\\e true\nRUN {T},target=/6/../6b,id=. true\nRUN {T},target=/7/,sharing=locked true\n",
+        ["a@b", "a#1", "100%", "a&b=c;de", ".", "/7"],
+    ),
+}
+REFUSED = [
+    ("FROM box\nRUN echo \\\\\nRUN true\n", NEW, r"line 2: it ends with \\\\: BuildKit's versions differ"),
+    ("FROM box\nCOPY <<EOF /x\na\nEOF\n", OLD, "line 2: here-documents of COPY: this daemon's BuildKit has none"),
+    ("FROM box\nFROM 0\n", NEW, "line 2: FROM 0: builders differ"),
+    ("MAINTAINER x\nFROM box\n", NEW, "line 1: MAINTAINER stands before the first FROM"),
+    ("{\"syntax\": \"x\"}\nFROM box\n", NEW, "line 1: .* stands before the first FROM"),
+    (f"FROM box\nRUN echo {T},target=/no\n", NEW, "line 2: `type=cache` stands where no cache mount"),
+    (f"FROM box\nRUN echo x {T[:12]}\\\n# c\n{T[12:]},target=/no\n", NEW, "`type=cache` stands where no cache mount"),
+    ("FROM box\nARG M=type=cache,id=m,target=/m\nRUN --mount=$M true\n", NEW, "line 2: `type=cache` stands"),
+    (f"FROM box AS a\nONBUILD RUN {T},target=/c true\nFROM a\nRUN true\n", NEW, "line 3: a has `ONBUILD RUN .*`: its cache can't be leased"),
+    ("FROM box AS a\nONBUILD COPY --from=b /x /x\nFROM a\n", NEW, "line 3: a has `ONBUILD COPY .*`: the stage that it names"),
+    (f"FROM box\nARG A=1 B=$A\nRUN {T},id=$B,target=/c true\n", NEW, "variable B"),
+    ("FROM box\nARG Q=a\\ b\nRUN --mount=type=bind,source=$Q,target=/c true\n", NEW, "no one reading"),
+]
+
+
+class Reading(unittest.TestCase):
+    def test_ids(self) -> None:
+        for name, (text, wanted) in KIT.items():
+            with self.subTest(name):
+                made = planned(text)
+                self.assertEqual([mount.id for mount in made.mounts], wanted)
+                self.assertEqual(read(made).count("<"), len(wanted) + made.text(lambda mount: "").count("<"))
+
+    def test_refused(self) -> None:
+        for text, reader, why in REFUSED:
+            with self.subTest(text[:60]), self.assertRaisesRegex(BadDockerfile, why):
+                planned(text, reader=reader)
+
+    def test_text(self) -> None:
+        """All but the mounts stays as it is, unless the daemon's BuildKit has no here-documents."""
+        text = f"FROM box\nRUN {T},target=/a cat <<EOF\nx\nEOF\nRUN --mount=type=bind,source=$PATH,target=/b true\n"
+        made = text.replace("--mount=type=bind,source=$PATH", "--mount=type=bind,source=/bin")
+        self.assertEqual(read(planned(text)), made.replace(f"{T},target=/a", "<shared:/a>"))
+        self.assertIn('RUN <shared:/a> ["/bin/sh", "-c", "cat <<EOF\\nx\\nEOF\\n"]\n', read(planned(text, reader=OLD)))
+
+    def test_real(self) -> None:
+        """What BuildKit wrote of this Dockerfile are these mounts."""
+        with open(f"{support.TOP}/examples/df-multistage.Dockerfile") as file:
+            made = plan(file.read(), {}, None, lambda name: Base({}), reader=NEW)
+        with open(f"{support.TOP}/examples/df-multistage.printed") as file:
+            wrote = re.findall(r"shared:team-a/(\S+)", file.read())
+        self.assertEqual(sorted(mount.folder for mount in made.mounts), sorted(f"shared:{each}" for each in wrote))
+
+    def test_platform(self) -> None:
+        made = planned(f"FROM --platform=$BUILDPLATFORM box\nARG TARGETARCH TARGETVARIANT\nRUN {T},id=$TARGETARCH$TARGETVARIANT,target=/a true\n",
+                       reader=Reader(True, True, "linux/arm/v7"))
+        self.assertEqual([mount.id for mount in made.mounts], ["armv7"])
+
+
+class Ids(support.RoomTest):
+    """An id whose lease didn't end well is never used again."""
+
+    def test_ids(self) -> None:
+        ids = CacheIds(self.path("mounts"))
+        seen = set[str]()
+        for ended_well in (True, True, False, True, None, True):
+            taken = ids.take(["locked:a", "locked:b"])
+            ids.found(CacheMount("locked:a", taken["locked:a"], f"/d/{len(seen)}"))
+            if ended_well is None:  # its agent was killed
+                ids = CacheIds(self.path("mounts"))
+            else:
+                ids.leave("locked:a", taken["locked:a"], ended_well)
+                ids.leave("locked:b", taken["locked:b"], True)
+            seen.add(taken["locked:a"])
+        self.assertEqual(len(seen), 3)
+        old = ids.old(ids.slots())
+        self.assertEqual([(slot, path) for slot, _, path in old if slot == "locked:a"], [("locked:a", "/d/1"), ("locked:a", "/d/2")])
+        self.assertLess({each for slot, each, _ in old if slot == "locked:a"}, seen)
+        ids.dropped(*old[0][:2])
+        self.assertEqual(ids.old(ids.slots()), old[1:])
+
+    def test_withdrawn(self) -> None:
+        """A build whose lease was withdrawn goes on with its own id: that of the next one isn't its to say of."""
+        ids = CacheIds(self.path("mounts"))
+        first = ids.take(["locked:a"])["locked:a"]
+        with mock.patch("agent.build.cacheids.ENDING", 0.0):
+            second = ids.take(["locked:a"])["locked:a"]
+        self.assertEqual(ids.old(["locked:a"]), [])  # it still runs
+        ids.leave("locked:a", first, True)
+        self.assertEqual([each[1] for each in ids.old(["locked:a"])], [first])
+        ids.leave("locked:a", second, True)
+        self.assertEqual(ids.take(["locked:a"])["locked:a"], second)
+
+
+class Refusing(support.FarmTest):
+    def docker(self, host: str) -> Docker:
+        return Docker(self.path("docker"), host, lambda: mock.MagicMock())
+
+    def test_check(self) -> None:
+        builder = self.docker("unix:///x.sock")
+        with mock.patch("os.geteuid", return_value=0), mock.patch.object(builder, "_check_daemon"):
+            rows: list[tuple[str, dict[str, str], str]] = [("# syntax=x/y\nFROM box\n", {}, "line 1: syntax=x/y"), ("\ufeff#  Syntax = docker/dockerfile:2\n", {}, "docker/dockerfile:2"),
+                    ("FROM box\n", {"BUILDKIT_CACHE_MOUNT_NS": "x"}, "BUILDKIT_CACHE_MOUNT_NS isn't carried out"),
+                    ("FROM box\n", {"BUILDKIT_SYNTAX": "x"}, "BUILDKIT_SYNTAX"), ("# x\n//syntax=docker/dockerfile-upstream:1\n", {}, "line 2")]
+            for text, args, why in rows:
+                with self.subTest(text), self.assertRaisesRegex(BadDockerfile, why):
+                    builder.check(text, args, BuildOptions())
+            for text in ("FROM box\n# syntax=x\n", "# syntax=docker/dockerfile:1.4\nFROM box\n", "# syntax=docker/dockerfile:1-labs\n", "#x\n"):
+                self.assertEqual(builder.check(text, {}, BuildOptions()), Reader(True, "syntax=docker" in text), text)
+            with self.assertRaisesRegex(UsageFault, "tcp://10.0.0.1:2375 may be a daemon of another machine"):
+                self.docker("tcp://10.0.0.1:2375").check("", {}, BuildOptions())
+
+    def test_words(self) -> None:
+        """No word of the owner: BuildKit would make another directory; and the id stands in the step's key."""
+        held = CacheMount("locked:a", "farm-1", "/d")
+        made = planned(f"FROM box\nRUN {T},target=/a,sharing=private,uid=5,gid=6,mode=0700 {T},target=/b,ro true").mounts
+        self.assertEqual([self.docker("").word(mount, held) for mount in made], [
+            "--mount=type=cache,id=farm-1,target=/a,sharing=locked --mount=type=tmpfs,target=/dev/farm-1",
+            "--mount=type=cache,id=farm-1,target=/b,sharing=shared,readonly --mount=type=tmpfs,target=/dev/farm-1",
+        ])
+
+    @unittest.skipUnless(support.is_root, "builds need root")
+    def test_no_daemon(self) -> None:
+        """It is told before anything is leased."""
+        self.write("context/Dockerfile", f"FROM scratch\nRUN {T},target=/a true\n")
+        self.env |= {"DOCKER_HOST": f"unix://{self.room}/no.sock", "BUILDX_BUILDER": ""}
+        said = self.asked("build", "--builder", "docker", self.path("context"), status=70)
+        self.assertIn(f"no Docker daemon answers at unix://{self.room}/no.sock: No such file", said)
+        self.assertNotIn("ticket", said)
+        for row, status in ((["--cache-from", "x"], 64), (["--builder", "docker", "--format", "oci"], 64), (["--push"], 64)):
+            self.assertRegex(self.asked("build", *row, self.path("context"), status=status), "goes with|buildah's|wants the name")
+
+    def test_daemon(self) -> None:
+        """The daemon is the one that `docker build` would ask; a builder with a BuildKit of its own is refused."""
+        home = self.path("config")
+        name = "2c26b46b68ffc68ff99b453c1d30413413422d706483bfa0f98a5e886266e7ae"  # the digest of `foo`
+        self.write(f"config/contexts/meta/{name}/meta.json", '{"Name": "foo", "Endpoints": {"docker": {"Host": "unix:///foo.sock"}}}')
+        self.write("config/buildx/instances/own", '{"Name": "own", "Driver": "docker-container"}')
+        rows: list[tuple[dict[str, str], str]] = [({}, words.OWN), ({"DOCKER_CONTEXT": "foo"}, "unix:///foo.sock"), ({"DOCKER_HOST": "unix:///a", "DOCKER_CONTEXT": "foo"}, "unix:///a")]
+        for env, wanted in rows:
+            with mock.patch.dict(os.environ, {"DOCKER_CONFIG": home} | env, clear=True):
+                self.assertEqual(words.daemon(), wanted)
+        for env, why in (({"DOCKER_CONTEXT": "bar"}, "context bar isn't in"), ({"BUILDX_BUILDER": "own"}, "own is of docker-container")):
+            with mock.patch.dict(os.environ, {"DOCKER_CONFIG": home} | env, clear=True), self.assertRaisesRegex(UsageFault, why):
+                words.daemon()
+        self.write("config/config.json", '{"auths": {"r.io": {"auth": "eDp5"}}, "currentContext": "foo", "proxies": {}}')
+        with mock.patch.dict(os.environ, {"DOCKER_CONFIG": home}, clear=True):
+            self.assertEqual((words.daemon(), words.logins(True)), ("unix:///foo.sock", '{"auths": {"r.io": {"auth": "eDp5"}}}'))
+
+    def test_directory(self) -> None:
+        """A directory counts only where it is the one that the step saw."""
+        here = os.lstat(self.room)
+        mark = f"{os.major(here.st_dev)}:{os.minor(here.st_dev)}"
+        with open("/proc/self/mountinfo") as file:
+            rows = [row.split(" ") for row in file]
+        above = max((row for row in rows if row[2] == mark and (self.room + "/").startswith(row[4].rstrip("/") + "/")), key=lambda row: len(row[4]))
+        root = above[3].rstrip("/") + self.room[len(above[4].rstrip("/")) :]
+        self.assertEqual(os.path.realpath(host_path(mark, root, here.st_dev, here.st_ino)), os.path.realpath(self.room))
+        for number, place in ((here.st_ino + 1, root), (here.st_ino, root + "/no")):
+            with self.assertRaisesRegex(FarmFault, "isn't on this machine"):
+                host_path(mark, place, here.st_dev, number)
+
+
+if __name__ == "__main__":
+    unittest.main()
