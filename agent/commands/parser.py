@@ -12,6 +12,7 @@ from typing import Any, Callable
 from agent.faults import FarmFault, show
 from agent.commands.run import SERVED, do_build, do_run
 from agent.commands.serve import do_coordinator, do_node, do_up
+from agent.words import USES
 
 ENDS = """statuses: the command's or builder's own; 64 wrong words; 65 a Dockerfile that can't be built under leases; 69 a program is missing;
 70 a fault; 75 the lease wasn't granted in time, or what was left doesn't count; 76 a build whose lease had ended"""
@@ -73,6 +74,13 @@ def ticket(text: str) -> int:
     if not 1 <= int(text) < 2**64:
         raise ValueError
     return int(text)
+
+
+def shared_as(text: str) -> str:
+    """`[ID=]MODE`."""
+    if text.rpartition("=")[2] not in USES:
+        raise argparse.ArgumentTypeError(f"a mode is one of {', '.join(USES)}, and not {text!r}")
+    return text
 
 
 def path(text: str) -> str:
@@ -143,6 +151,7 @@ def _merged_words(made: argparse.ArgumentParser) -> None:
         help="whose a path of a merged folder is that others changed meanwhile too (%(default)s); fail: nothing counts, and the status is 75",
     )
     made.add_argument("--verbose", action="store_true", help="tells each such path")
+    made.add_argument("--warm", action="store_true", help="a new private folder begins as the last version of any of its name")
 
 
 def _build_words(verbs: Any) -> None:
@@ -167,7 +176,7 @@ def _build_words(verbs: Any) -> None:
         build.add_argument(name, action="append", default=[], help="as of docker build")
     build.add_argument("--wait", type=seconds, metavar="SECONDS")
     build.add_argument("--on-lost", choices=["stop", "go-on"], default="go-on")
-    build.add_argument("--shared-as", choices=["shared", "locked", "private", "merged"], default="shared", help="treats shared mounts so")
+    build.add_argument("--shared-as", type=shared_as, action="append", default=[], metavar="[ID=]MODE", help="treats shared mounts so, or those of one id")
     build.add_argument("--keep-failed", action="store_true", help="commits also what a failed build left")
     build.add_argument("--tag-fenced", action="store_true", help="tags the image also where the lease had ended")
     _merged_words(build)

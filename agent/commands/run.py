@@ -145,7 +145,7 @@ def do_run(args: argparse.Namespace) -> int:
     return ask_node(args.home, args.node, RunRequest(
         command=tuple(command), folders=tuple(args.folder), cwd=own_folder(), env=own_environment(), umask=own_umask(),
         wait=args.wait, must_commit=args.must_commit, stops_when_lost=args.on_lost == "stop",
-        on_conflict=args.on_conflict, tells_conflicts=args.verbose,
+        on_conflict=args.on_conflict, tells_conflicts=args.verbose, is_warm=args.warm,
     ))
 
 

@@ -163,9 +163,10 @@ class CoordinatorAgent:
             threading.Thread(target=self._tell_needed, args=(int(words[1]), words[2], int(words[3])), daemon=True).start()
 
     def _tell_last(self, node: int, word: str, slot: str) -> None:
-        """The last version of a slot, to a node that has no lease of it."""
+        """The last version of a slot, or of any instance of a folder, to a node that has no lease of it."""
         with contextlib.suppress(FarmFault):
-            found = next((each for each in self.status().folders if each.slot == slot), None)
+            folders = [each for each in self.status().folders if slot in (each.slot, each.slot.partition("#")[0])]
+            found = max(folders, key=lambda each: each.ticket, default=None)
             text = f"lastis {node} {word} {found.version} {found.digest}" if found else f"lastis {node} {word} 0 {EMPTY}"
             self.setup.transport.send(node_address(node), self.hints.seal(text))
 

@@ -57,6 +57,7 @@ class Job:
     umask: int | None = None
     on_conflict: str = "newer"  # whose a path is that a merged folder's others changed too
     tells_conflicts: bool = False  # each by its path
+    is_warm: bool = False  # a new PRIVATE folder begins as the last version of any
 
 
 class Run:
@@ -283,8 +284,24 @@ class Run:
         return check
 
     def _fill(self, want: Want, slot: Slot, path: str) -> None:
-        self.agent.fill(slot, path, self.epoch, self.patience)
-        self.job.filled(want, path, slot.base == 0)
+        is_new = slot.base == 0
+        if not (is_new and self.job.is_warm and slot.name.startswith("private:") and self._filled_warm(slot, path)):
+            self.agent.fill(slot, path, self.epoch, self.patience)
+        self.job.filled(want, path, is_new)
+
+    def _filled_warm(self, slot: Slot, path: str) -> bool:
+        """Fills a new PRIVATE folder with the last version that any of its name committed. Whether there is one, and it is here."""
+        last = self.agent.merged.last(slot.folder, Patience(self.caller, None))
+        if not last.base:
+            return False
+        try:
+            self.agent.fill(slot._replace(digest=last.digest), path, self.epoch, self.patience)
+        except (LifeOver, ClientGone, WaitOver):
+            raise
+        except FarmFault:  # it was forgotten meanwhile
+            return False
+        self.caller.say(f"{slot.name} begins as a version of another one")
+        return True
 
     def _kept(self, slot: Slot) -> tuple[bytes, str]:
         """Keeps what a slot's path holds: its index, and the digest of that."""
