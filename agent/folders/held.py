@@ -178,7 +178,7 @@ class _Bringing:
             self.touched.add(folder_of(name))
         odd = [name for name in self.held.odd if self.now.get(name) is self.target.get(name) or self.now.get(name) == self.target.get(name)]
         for name in odd:
-            path, entry = self._whole(name), self.now[name]
+            path = self._whole(name)
             with contextlib.suppress(OSError):  # none are there
                 for each in os.listxattr(path, follow_symlinks=False):
                     os.removexattr(path, each, follow_symlinks=False)
