@@ -115,6 +115,9 @@ def _serving_words(verbs: Any) -> None:
         made.add_argument("--verbose", action="store_true", help="says what the filters answer")
     for made in (up, coordinator):
         made.add_argument(
+            "--restored", action="store_true", help="vouches for a record that is older than the farm: begins a new generation, with a new key"
+        )
+        made.add_argument(
             "--lease-timeout", type=seconds, metavar="SECONDS", help="withdraws the leases of a node that wasn't heard for so long"
         )
     for made in (coordinator, one):
@@ -181,9 +184,11 @@ def _asking_words(verbs: Any) -> None:
     web.add_argument("--port", type=int, required=True)
     web.add_argument("--address", default="127.0.0.1", help="the address that it listens at (%(default)s): who reaches it may read all")
     log = _verb(verbs, "log", _asks("do_log"), "the versions of a folder", "farm log locked:ccache")
-    log.add_argument("folder")
+    log.add_argument("folder", nargs="?")
+    log.add_argument("--lost", action="store_true", help="what generations before this one had beyond the record")
     get = _verb(verbs, "get", _asks("do_get"), "what a version holds, without a lease", "farm get locked:ccache@3 /tmp/third")
     get.add_argument("folder", metavar="FOLDER[@NUMBER]")
+    get.add_argument("--lost", action="store_true", help="of what farm log --lost shows")
     get.add_argument("to", type=path, metavar="DIR", help="a folder, or - for a tar on the standard output")
     withdraw = _verb(verbs, "withdraw", _asks("do_withdraw"), "ends a lease: its holder's commit won't count", "farm withdraw 17")
     withdraw.add_argument("ticket", type=ticket, metavar="T")

@@ -17,6 +17,7 @@ from agent.filters.lines import Answer, Filter, FilterGone, Talk, line_of
 from agent.transport.needs import parts
 from agent.filters.node import HEARTBEAT, Setup
 from agent.filters.snapshots import Merges, Snapshots
+from agent.filters.watch import Watch
 from agent.transport.local import COORDINATOR, address_of, node_address
 from agent.service.operators import FolderStatus, Lease, Status, Version, Waiting
 from agent.words import DIGEST, EMPTY, is_folder
@@ -34,8 +35,8 @@ REFUSALS = {  # what people are told beside the name of one
 
 
 class CoordinatorAgent:
-    def __init__(self, setup: Setup, lease_timeout: float | None = None) -> None:
-        self.setup, self.lease_timeout = setup, lease_timeout
+    def __init__(self, setup: Setup, lease_timeout: float | None = None, nodes: int = 0, has_broker: bool = False) -> None:
+        self.setup, self.lease_timeout, self.nodes = setup, lease_timeout, nodes
         self.hints = Hints(setup.key)
         self.since: dict[int, float] = {}  # of a ticket: when this agent saw it granted
         self.heard: dict[int, float] = {}  # of a node: the time of day at which it was heard
@@ -48,6 +49,7 @@ class CoordinatorAgent:
         self.begun = time.monotonic()
         self.lock = threading.Lock()
         self.telling = threading.Lock()
+        self.watch = Watch(self, has_broker)
         words = ["coordinator", "--record", f"{setup.home}/record", "--key", setup.key]
         self.talk = Talk("coordinator", [setup.program, *words], lambda: None, self.hear)
 
@@ -63,7 +65,9 @@ class CoordinatorAgent:
         for fact in answer.facts:
             self._hear_fact(fact.split(" "))
         for line in answer.sends:
-            self.setup.transport.send(address_of(line), line)
+            self.watch.take_line(line)
+            if self.watch.may_send(line):
+                self.setup.transport.send(address_of(line), line)
 
     def _hear_grants(self, lines: list[str]) -> None:
         """Grants that are made just now, also to asks that waited."""
@@ -98,12 +102,13 @@ class CoordinatorAgent:
     def serve(self) -> None:
         """Hears messages for ever, sends its grants again now and then, and withdraws the leases of nodes that fell silent."""
         delay, due = 1.0, time.monotonic() + 1.0
-        while not self.talk.stopped:
+        while not self.talk.stopped and not self.watch.fault:
             try:
-                lines = self._lines(0.5)
+                lines = self._lines(0.1 if self.watch.is_quiet() else 0.5)
+                self.watch.go_on()
                 if any(note.startswith(("granted", "parked")) for note in self.receive(lines)):
                     delay = 1.0
-                if time.monotonic() > due:
+                if time.monotonic() > due and not self.watch.is_quiet():
                     self.call("nudge")
                     self._withdraw_silent()
                     delay = min(delay * 2, NUDGE_MOST)
@@ -130,8 +135,10 @@ class CoordinatorAgent:
             words = self.hints.open(line)
             if words:
                 self._hear_hint(words)
-            elif "\n" not in line and "\r" not in line:
+            elif "\n" not in line and "\r" not in line and self.watch.may_pass(line):
                 passed.append(line)
+        passed += self.watch.freed()
+        self.watch.check()
         notes = [answer.note for answer in self.talk.calls([f"m {line}" for line in passed])] if passed else []
         for line, note in zip(passed, notes):
             if not note.startswith(("dropped", "refused")):
@@ -146,6 +153,7 @@ class CoordinatorAgent:
             self._was_heard(int(words[1]))
             if words[2:]:
                 self._tell_ended(int(words[1]), {int(word) for word in words[2:]})
+        self.watch.hear(words)
         if words[0] == "left":
             self.left[int(words[1])] = (int(words[2]), {int(word) for word in words[3:]})
         if words[0] == "who":
@@ -275,6 +283,7 @@ class CoordinatorAgent:
 
     def operate(self, *words: str) -> str:
         """An operator's call. What came of it; a refusal is a fault."""
+        self.watch.check()
         answer = self.call(line_of(*words))
         if answer.is_refused:
             why = REFUSALS.get(answer.note.removeprefix("refused "))
@@ -292,7 +301,7 @@ class CoordinatorAgent:
                 except FilterGone as gone:
                     raise FarmFault(f"no life of node {node} can be begun: {gone.said}") from None
                 try:
-                    self.receive(last.greeting.sends)
+                    self.talk.calls([f"m {line}" for line in last.greeting.sends])
                 finally:
                     last.close()
         try:
@@ -307,3 +316,5 @@ class CoordinatorAgent:
 
     def stop(self) -> None:
         self.talk.stop()
+        with contextlib.suppress(OSError):
+            self.watch.knowledge.save(at_once=True)

@@ -74,6 +74,7 @@ class Run:
         self.leased = [want for want in job.wants if not want.is_merged]
         self.merged = sorted((want for want in job.wants if want.is_merged), key=lambda want: want.folder)
         self.owns: dict[str, Own] = {}  # the command's copies of merged folders
+        self.kept: list[str] = []  # digests that are held until the commit is answered
         self.counts = False  # whether what it left in the folders of its lease counts
         if len(job.wants) > MOST_FOLDERS:
             raise UsageFault(f"{len(job.wants)} folders: one lease has at most {MOST_FOLDERS}")
@@ -212,7 +213,7 @@ class Run:
                 if note != f"finished {grant.ticket}":
                     raise FarmFault(f"it can't be finished: {note}")
                 self.finished = True
-            return self._settle(grant, status, self.agent.ending(ask, grant.ticket, self.epoch, self.caller), bool(words))
+            return self._settle(grant, status, self.agent.ending(ask, grant.ticket, self.epoch, self.caller, over=self._release), bool(words))
         except BaseException as fault:
             if self.finished or self.begun and isinstance(fault, LifeOver):
                 self.caller.say(f"lost {grant.ticket}: what the command left isn't known to count")
@@ -221,6 +222,8 @@ class Run:
             raise
         finally:
             self.agent.ended.discard(grant.ticket)
+            if not self.finished:
+                self._release(True)  # nothing of it is committed
 
     def _execute(self, grant: Grant, tenures: dict[str, Tenure], held: contextlib.ExitStack) -> tuple[int, list[tuple[str, str]], bool]:
         """Fills the folders, runs the command, and keeps what it left: its status, each slot with the file of its index, and whether any of
@@ -286,15 +289,22 @@ class Run:
         self.agent.fill(slot, path, self.epoch, self.patience)
         self.job.filled(want, path, slot.base == 0)
 
+    def _release(self, is_answered: bool) -> None:
+        kept, self.kept = self.kept, []
+        for digest in kept:
+            self.agent.store.release(digest, is_answered)
+
     def _kept(self, slot: Slot) -> tuple[bytes, str]:
-        """Keeps what a slot's path holds: its index, and the digest of that."""
+        """Keeps what a slot's path holds: its index, and the digest of that, which is held then."""
         patience = Patience(self.caller, None)
 
         def away(why: str) -> None:
             patience.say(why)
             patience.check()
 
-        return self.agent.places.keep(self.agent.store, self.paths[slot.folder], away, patience.check)
+        index, digest = self.agent.places.keep(self.agent.store, self.paths[slot.folder], away, patience.check)
+        self.kept.append(digest)
+        return index, digest
 
     def _command(self, grant: Grant | None, tenures: dict[str, Tenure], binds: list[tuple[str, str, bool]]) -> int:
         agent, job = self.agent, self.job

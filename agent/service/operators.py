@@ -21,6 +21,12 @@ class LogRequest(NamedTuple):
     folder: str
 
 
+class LostRequest(NamedTuple):
+    """Asks for the versions that generations before this one had, and the record hasn't: of a folder or slot, or all."""
+
+    folder: str | None
+
+
 class WithdrawRequest(NamedTuple):
     ticket: int
 
@@ -96,5 +102,5 @@ class Versions(NamedTuple):
     slots: dict[str, tuple[Version, ...]]
 
 
-CoordinatorRequest = StatusRequest | LogRequest | WithdrawRequest | RetireRequest | PruneRequest | NeededRequest | StoreRequest
+CoordinatorRequest = StatusRequest | LogRequest | LostRequest | WithdrawRequest | RetireRequest | PruneRequest | NeededRequest | StoreRequest
 CoordinatorTold = Digests | StorePlace | Status | Versions

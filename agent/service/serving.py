@@ -14,11 +14,11 @@ import time
 from dataclasses import dataclass, field
 
 from agent.build.builds import Build, Builds
-from agent.service.client import check_home
+from agent.service.client import check_home, is_there
 from agent.filters.coordinator import SILENT_LEAST, CoordinatorAgent
 from agent.runs.executions import open_many
 from agent.faults import LOST, FarmFault, UsageFault, show, tell
-from agent.transport.hints import Hints, make_key
+from agent.transport.hints import Hints, make_key, renew_key
 from agent.filters.lines import line_of
 from agent.filters.node import NodeAgent, Setup
 from agent.folders.places import check_outside
@@ -26,12 +26,15 @@ from agent.store.opened import farm_name, open_store
 from agent.store.redis import RedisStore
 from agent.transport.redis import RedisTransport
 from agent.runs.run import Job, Run
-from agent.service.operators import LogRequest, PruneRequest, RetireRequest, StatusRequest, Versions, WithdrawRequest
+from agent.service.operators import (
+    LogRequest, LostRequest, PruneRequest, RetireRequest, StatusRequest, Version, Versions, WithdrawRequest,
+)
 from agent.service.requests import (
     BuildRequest, Digests, ForgetRequest, Forgotten, NeededRequest, RunRequest, StorePlace, StoreRequest,
 )
 from agent.service.sockets import Connection, Handler, Service, group_of
 from agent.store.folder import is_old
+from agent.store.lasting import clock_of
 from agent.tools import farm_program
 from agent.transport.local import LocalTransport, Transport
 from agent.words import DIGEST, want_of
@@ -53,6 +56,7 @@ class Wanted:
     verbose: bool = False
     group: str | None = None  # whose members may ask, beside the home's owner
     while_used: bool = False
+    restored: bool = False  # the operator vouches for the coordinator's record, though the farm knows of a later one
 
 
 @dataclass
@@ -83,7 +87,9 @@ def check(wanted: Wanted) -> None:
         raise UsageFault(f"a node that is well may be silent for some seconds: --lease-timeout is at least {SILENT_LEAST:g}")
     if not wanted.broker and os.path.exists(mark):
         raise UsageFault(f"{home} is of a farm over a broker. If that farm is gone, remove {mark}")
-    if wanted.broker and wanted.coordinator and os.path.exists(mark) and not os.path.exists(f"{home}/record"):
+    if wanted.restored and (is_there(f"{home}/coordinator.sock") or not os.path.exists(f"{home}/key")):
+        raise UsageFault(f"--restored is for a coordinator that has ended, and whose key and record lie in {home}")
+    if wanted.broker and wanted.coordinator and os.path.exists(mark) and not os.path.exists(f"{home}/record") and not wanted.restored:
         raise UsageFault(f"{home} is of a farm whose coordinator has another home, or lost its record: a second one would give its tickets again")
     if wanted.broker and not os.path.exists(f"{home}/key") and not wanted.coordinator:
         raise UsageFault(f"{home}/key is missing: copy it from the coordinator's machine, by a way that nobody else can read")
@@ -124,20 +130,22 @@ def setup_of(wanted: Wanted) -> Setup:
         os.chown(wanted.home, -1, group_of(wanted.group))
         os.chmod(wanted.home, 0o750)
     key = make_key(f"{wanted.home}/key")
+    if wanted.restored:
+        renew_key(key)
     hints = Hints(key)
     check_joined(wanted.home, hints)
     if wanted.contents:
         check_contents(wanted.contents, hints)
     transport: Transport = LocalTransport()
     if wanted.broker:
-        transport = RedisTransport(wanted.broker, farm_name(hints))
+        transport = RedisTransport(wanted.broker, f"farm-{hints.lines_name()}")
 
     def log(text: str) -> None:
         if wanted.verbose:
             with contextlib.suppress(OSError):  # what the filters say counts, whether anybody hears of it or not
                 print(f"{time.strftime('%H:%M:%S')} {text}", file=sys.stderr, flush=True)
 
-    store = open_store(wanted.home, wanted.broker, wanted.contents, hints)
+    store = open_store(wanted.home, wanted.broker, wanted.contents, hints, "-".join(map(str, wanted.nodes)))
     if isinstance(store, RedisStore) and not store.keeps_well():
         tell("Redis doesn't sync what it is given (appendonly yes, appendfsync always): its crash can lose contents")
     return Setup(program=program, home=wanted.home, key=key, store=store, transport=transport, log=log)
@@ -152,6 +160,8 @@ def begin(wanted: Wanted) -> Served:
             _begin_coordinator(served, setup)
         for number in wanted.nodes:
             _begin_node(served, setup, number)
+        if served.coordinator:
+            served.coordinator.watch.settle(set(wanted.nodes))
         join(wanted, Hints(setup.key))
     except BaseException:
         served.stop()
@@ -160,10 +170,19 @@ def begin(wanted: Wanted) -> Served:
 
 
 def _begin_coordinator(served: Served, setup: Setup) -> None:
-    agent = CoordinatorAgent(setup, served.wanted.lease_timeout)
-    agent.talk.start()
+    wanted = served.wanted
+    agent = CoordinatorAgent(setup, wanted.lease_timeout, nodes=wanted.most, has_broker=bool(wanted.broker))
     served.coordinator = agent
+    agent.talk.start()
+    if wanted.restored:
+        lost = sum(map(len, agent.watch.restore().values()))
+        tell(
+            f"the farm is of a new generation: copy {setup.key} to the home of each of its nodes, and start them again. {lost} versions that are "
+            "known of the one before aren't in the record, and farm log --lost shows them"
+        )
+    agent.watch.begin()
     threading.Thread(target=agent.serve, daemon=True).start()
+    agent.watch.settle(set())
     _serve(served, "coordinator", lambda asked, link: answer_operator(agent, served.wanted, asked, link))
 
 
@@ -223,6 +242,8 @@ def _stand(served: Served, over: threading.Event) -> None:
     """Waits until it is told to end, or nobody uses it any more."""
     wanted = served.wanted
     while not over.wait(0.5):
+        if served.coordinator:
+            served.coordinator.watch.check()
         if wanted.while_used and not served.is_busy() and time.monotonic() - max(service.used for service in served.services) > IDLE:
             for service in served.services:
                 service.close()
@@ -279,7 +300,7 @@ def run_of(agent: NodeAgent, wanted: Wanted, request: RunRequest, link: Connecti
 
 def forget(agent: NodeAgent, needed: set[str], grace: float) -> int:
     """Forgets the contents of a node that aren't needed and are older than the grace, as far as its filter lets it. How many went."""
-    folder, oldest = f"{agent.home}/filter/contents", time.time() - grace
+    folder, oldest = f"{agent.home}/filter/contents", clock_of(agent.home) - grace
     found = [name for name in os.listdir(folder) if DIGEST.fullmatch(name)] if os.path.isdir(folder) else []
     gone = [name for name in found if name not in needed and is_old(f"{folder}/{name}", oldest)]
     return sum(not agent.call(line_of("forget", name)).is_refused for name in gone)
@@ -291,6 +312,9 @@ def answer_operator(agent: CoordinatorAgent, wanted: Wanted, request: object, li
         link.tell(agent.status(request.last))
     elif isinstance(request, LogRequest):
         link.tell(Versions(slots={slot: tuple(agent.versions(slot)) for slot in agent.slots_of(request.folder)}))
+    elif isinstance(request, LostRequest):
+        link.tell(Versions(slots={slot: tuple(Version(version=number, ticket=0, digest=some[number]) for number in sorted(some))
+                                  for slot, some in agent.watch.lost().items() if request.folder in (None, slot, slot.partition("#")[0])}))
     elif isinstance(request, WithdrawRequest):
         link.say(agent.operate("withdraw", str(request.ticket)))
     elif isinstance(request, RetireRequest):

@@ -45,3 +45,13 @@ def put_file(path: str, data: bytes) -> None:
         os.unlink(beside)
         raise
     sync_folder(folder)
+
+
+def clock_of(folder: str) -> float:
+    """The time of day by the clock of a folder's file system, which may be another machine's."""
+    handle, path = tempfile.mkstemp(prefix=NEW, dir=folder)
+    try:
+        return os.fstat(handle).st_mtime
+    finally:
+        os.close(handle)
+        os.unlink(path)

@@ -1,9 +1,15 @@
 """What was confirmed can be read again: by a farm whose stores were spoilt, and while what isn't needed is forgotten."""
 from __future__ import annotations
 
+import contextlib
+import io
 import os
 import shutil
 import unittest
+
+from agent.faults import FarmFault
+from agent.filters.node import NodeAgent
+from agent.transport.local import LocalTransport
 
 from agent.tests import support
 
@@ -41,6 +47,103 @@ class Spoilt(support.FarmTest):
         self.assertIn("version 2", self.run_on("echo two >> w/f"))
         shutil.rmtree(self.path("w"))
         self.assertIn("one\ntwo\n", self.run_on("cat v/f; cmp v/big big", path="v"))
+
+
+@unittest.skipUnless(support.has("casync"), support.needs("casync"))
+class OldRecords(support.FarmTest):
+    """A coordinator's record that is old, lost or a copy."""
+
+    def run_on(self, command: str) -> str:
+        return self.farm("run", "--node", "1", "--folder", "locked:c=w", "--", "sh", "-c", command).stderr
+
+    def put_back(self, home: str, old: str) -> None:
+        for name in ("record", "record.log"):
+            with contextlib.suppress(FileNotFoundError):
+                os.unlink(f"{home}/{name}")
+            if os.path.exists(f"{old}/{name}"):
+                shutil.copy(f"{old}/{name}", home)
+
+    def refused(self, *words: str) -> str:
+        done = self.farm(*words, status=70)
+        self.assertEqual(done.stdout, "")
+        self.assertIn("--restored", done.stderr)
+        return done.stderr
+
+    def test_put_back(self) -> None:
+        """An old record is noticed before it answers, also an empty one. The operator's word makes a new generation of the farm."""
+        words = ("up", "--nodes", "1")
+        up = self.up(*words)
+        self.run_on("echo one > w/f")
+        shutil.copytree(self.home, self.path("old"), ignore=lambda folder, names: [name for name in names if not name.startswith("record")])
+        self.run_on("echo two > w/f")
+        self.run_on("echo three > w/f")
+        up.terminate()
+        up.wait()
+        os.unlink(f"{self.home}/known")  # the node's home still knows
+        self.put_back(self.home, self.path("old"))
+        key = self.read("home/key")
+        self.assertRegex(self.refused(*words), r"older than the farm.*node 1 tells that locked:c had version 3, and the record has 1")
+        self.put_back(self.home, self.path("none"))
+        self.assertRegex(self.refused(*words), "tells that ticket [0-9]+ was granted, and the record's last is 0; locked:c had version")
+        self.put_back(self.home, self.path("old"))
+        up = self.up(*words, "--restored")
+        self.assertNotEqual(self.read("home/key"), key)
+        self.assertRegex(self.asked("log", "--lost"), r"\Alocked:c version 2 lost [0-9a-f]{64}\nlocked:c version 3 lost [0-9a-f]{64}\n\Z")
+        self.assertIn("version 2", self.run_on("cat w/f; echo other > w/f"))
+        self.asked("get", "--lost", "locked:c@3", self.path("lost"))
+        self.asked("get", "locked:c", self.path("last"))
+        self.assertEqual((self.read("lost/f"), self.read("last/f")), ("three\n", "other\n"))
+        up.terminate()
+        up.wait()
+        self.up(*words)
+        self.assertIn("version 3", self.run_on("true"))
+
+    @unittest.skipUnless(support.has("redis-server"), support.needs("redis-server"))
+    def test_machines(self) -> None:
+        """A node tells a coordinator whose record is older, copied or empty; a second coordinator hears the first one, and so does that."""
+        with support.redis_server(self.room) as url:
+            self.env["FARM_BROKER"] = url
+            self.env["FARM_HOME"] = self.path("n1")
+            words = ("coordinator", "--nodes", "1", "--home")
+            first = self.up(*words, self.path("c"))
+            os.makedirs(self.path("n1"))
+            shutil.copy(self.path("c/key"), self.path("n1/key"))
+            self.up("node", "1", "--nodes", "1")
+            self.run_on("echo one > w/f")
+            shutil.copytree(self.path("c"), self.path("old"), ignore=lambda folder, names: [name for name in names if name.endswith(".sock")])
+            os.makedirs(self.path("new"))
+            shutil.copy(self.path("c/key"), self.path("new/key"))
+            self.assertIn("another coordinator of this farm runs", self.refused(*words, self.path("old")))
+            self.run_on("echo two > w/f")
+            self.assertIsNone(first.poll())
+            first.terminate()
+            first.wait()
+            for home in ("old", "new"):
+                self.assertIn("older than the farm", self.refused(*words, self.path(home)))
+            self.up(*words, self.path("c"))
+            self.assertIn("version 3", self.run_on("echo three > w/f"))
+
+
+class Divided(support.RoomTest):
+    def test_another_digest(self) -> None:
+        """A node that is told another digest for a version that it knows says so, and takes part in nothing more."""
+        transport = LocalTransport()
+        agent = NodeAgent(1, 1, support.setup_of(self.room, os.environ.get("FARMCTL", support.PRACTICE), transport))
+        agent.talk.start()
+        self.addCleanup(agent.stop)
+        seal = agent.hints.seal
+        agent.receive(seal(f"known 1 5 locked:a=3:{'a' * 64}"))
+        agent.receive(seal(f"known 1 5 locked:a=2:{'b' * 64}"))
+        agent.check_retired()
+        with contextlib.redirect_stderr(io.StringIO()) as heard:
+            agent.receive(seal(f"known 1 6 locked:a=3:{'c' * 64}"))
+        self.assertRegex(heard.getvalue(), f"node 1 takes part in nothing more: locked:a version 3 is known as {'a' * 64}, and is told as {'c' * 64}")
+        with self.assertRaisesRegex(FarmFault, "takes part in nothing more"):
+            agent.check_retired()
+        agent.stop()
+        with contextlib.redirect_stderr(io.StringIO()):
+            again = NodeAgent(1, 1, agent.setup)
+        self.assertEqual(again.knowledge.whole(), (6, {"locked:a": {2: "b" * 64, 3: "a" * 64}}))
 
 
 if __name__ == "__main__":

@@ -253,15 +253,42 @@ class Trees(support.RoomTest):
     def test_forget_meanwhile(self) -> None:
         """What gets its whole name, or is forgotten by another one, while it is looked for is no fault."""
         with mock.patch("os.walk", return_value=[(self.store.chunks, [], [".new-x"])]), mock.patch("os.listdir", return_value=["0" * 64]):
-            self.assertEqual(self.store.forget(set(), -10), (0, 0))
+            self.assertEqual(self.store.forget(lambda: set(), -10), (0, 0))
 
     def test_forget_damaged(self) -> None:
         """Chunks of a content that is needed stay, though its index can't be read: a filter may have it."""
         index, digest = support.kept(self.store, self.tree())
         put_file(f"{self.store.indexes}/{digest}", b"damaged")
-        with self.assertRaisesRegex(FarmFault, "isn't readable"):
-            self.store.forget({digest}, -1)
+        heard = list[str]()
+        self.assertEqual((self.store.forget(lambda: {digest}, -1, heard.append)[1], heard), (0, [digest]))
         trees.extract(self.store, index, self.path("out"))
+
+    def test_held(self) -> None:
+        """What is held isn't forgotten, however old its files are; of a process that ended amid a commit it is for the grace, by no clock of day."""
+        self.write("one/f", "a" * 300_000)
+        with self.store.making():
+            digest = self.store.publish(make_whole(self.store, self.path("one")))
+        self.assertEqual(self.store.forget(set, -1), (0, 0))
+        trees.extract(self.store, self.store.index(digest) or b"", self.path("out"))
+        self.store.release(digest, is_answered=False)
+        for folder, _, names in os.walk(self.path("store")):
+            for name in names:
+                os.utime(f"{folder}/{name}", (1, 1))
+        self.assertEqual(FolderStore(self.path("store")).forget(set, 3600), (0, 0))
+        indexes, chunks = FolderStore(self.path("store")).forget(set, -1)
+        self.assertEqual((indexes, bool(chunks), os.listdir(self.path("store/holds"))), (1, True, []))
+
+    def test_answered_meanwhile(self) -> None:
+        """A commit that is answered while gc goes on is needed: holds are looked at first, and what is needed is asked then."""
+        self.write("one/f", "a" * 300_000)
+        with self.store.making():
+            digest = self.store.publish(make_whole(self.store, self.path("one")))
+
+        def ask() -> set[str]:
+            self.store.release(digest)  # it is answered just behind what the coordinator told
+            return set()
+
+        self.assertEqual(self.store.forget(ask, -1), (0, 0))
 
     def test_forget(self) -> None:
         self.write("one/f", "a" * 300_000)
@@ -269,8 +296,8 @@ class Trees(support.RoomTest):
         one, digest = support.kept(self.store, self.path("one"))
         _, other = support.kept(self.store, self.path("two"))
         self.write(f"store/chunks/0000/{'0' * 64}.tmp", "left by a killed casync")
-        self.assertEqual(self.store.forget({digest}, 3600), (0, 0))
-        indexes, chunks = self.store.forget({digest}, -1)
+        self.assertEqual(self.store.forget(lambda: {digest}, 3600), (0, 0))
+        indexes, chunks = self.store.forget(lambda: {digest}, -1)
         self.assertEqual(indexes, 1)
         self.assertGreaterEqual(chunks, 2)
         self.assertIsNone(self.store.index(other))
