@@ -215,7 +215,7 @@ class Places:
                 if not self._is_ours(path):
                     raise FarmFault(f"{path} is there, and wasn't made by this node: name a path that is free")
                 self.trash.take(path)
-        os.makedirs(path, exist_ok=True)
+        own_anew(path)
         self.known.pop(path, None)
         self._note(path, None)
 
@@ -362,6 +362,16 @@ class Places:
             self.versions.add(version)
             self._keep_known(held, path, digest)
             return version.index, digest
+
+
+def own_anew(path: str) -> None:
+    """Makes an empty folder at a path, or takes the one that is there: one that another user made would stay that user's to write."""
+    if os.path.lexists(path) and os.lstat(path).st_uid != os.geteuid():
+        try:
+            os.rmdir(path)
+        except OSError:
+            raise FarmFault(f"{path} is another user's folder: name a path that is free, or remove it") from None
+    os.makedirs(path, exist_ok=True)
 
 
 def _device_of(path: str) -> int:

@@ -112,7 +112,7 @@ def check_joined(home: str, hints: Hints) -> None:
 def check_contents(folder: str, hints: Hints) -> None:
     """Refuses a folder of contents that another farm has: each would forget what the other one needs."""
     mark = f"{folder}/farm"
-    os.makedirs(folder, exist_ok=True)
+    close_to_others(folder, None)
     try:
         with open(mark, "x") as file:
             file.write(hints.name())
@@ -122,13 +122,24 @@ def check_contents(folder: str, hints: Hints) -> None:
                 raise UsageFault(f"{folder} has the contents of another farm: name another --contents. If that farm is gone, remove {mark}") from None
 
 
+def close_to_others(folder: str, group: str | None) -> None:
+    """Makes a folder, or closes one, so that only its owner enters it, and a group whose members reach the sockets there: the key, and what a
+    build kept, is its owner's alone."""
+    os.makedirs(folder, mode=0o700, exist_ok=True)
+    here, mode = os.stat(folder), 0o750 if group else 0o700
+    if group and here.st_gid != group_of(group):
+        os.chown(folder, -1, group_of(group))
+    if here.st_mode & 0o777 != mode:
+        try:
+            os.chmod(folder, mode)
+        except PermissionError:
+            raise UsageFault(f"{folder} is another user's: name one of your own, or have its owner chmod it to {mode:o}") from None
+
+
 def setup_of(wanted: Wanted) -> Setup:
     check(wanted)
     program = farm_program()
-    os.makedirs(wanted.home, mode=0o700, exist_ok=True)
-    if wanted.group:  # its members reach the sockets; the key is its owner's alone
-        os.chown(wanted.home, -1, group_of(wanted.group))
-        os.chmod(wanted.home, 0o750)
+    close_to_others(wanted.home, wanted.group)
     key = make_key(f"{wanted.home}/key")
     if wanted.restored:
         renew_key(key)

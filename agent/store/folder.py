@@ -12,11 +12,13 @@ import os
 from typing import Callable, Iterator, Protocol
 
 from agent.faults import FarmFault
-from agent.store.chunks import chunk_names, chunk_path, chunk_sizes
+from agent.store.chunks import chunk_names, chunk_path, chunk_sizes, folder_size
 from agent.store.holds import Holds
 from agent.store.lasting import clock_of, put_file
 from agent.store.packing import CHECKED, ChunkSpoilt, unpacked, wrong_names
 from agent.words import DIGEST, EMPTY
+
+LARGEST_CONTENT = 16 << 20  # bytes
 
 
 class ChunksMissing(FarmFault):
@@ -81,6 +83,11 @@ class FolderStore:
         return self._locked(fcntl.LOCK_SH)
 
     def publish(self, index: bytes, away: Callable[[str], None] = lambda why: None, base: bytes = b"") -> str:
+        if len(index) > LARGEST_CONTENT:
+            raise FarmFault(
+                f"TooLarge: the content has {len(index)} bytes, and no line carries more than {LARGEST_CONTENT}. It is the index of a folder of "
+                f"{folder_size(index)} bytes: keep that in several folders"
+            )
         digest = hashlib.sha256(index).hexdigest()
         self.fetch(index)
         self.holds.hold(digest)

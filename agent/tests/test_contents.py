@@ -2,6 +2,7 @@
 from __future__ import annotations
 
 import contextlib
+import grp
 import io
 import os
 import shutil
@@ -9,6 +10,7 @@ import unittest
 
 from agent.faults import FarmFault
 from agent.filters.node import NodeAgent
+from agent.service.serving import close_to_others
 from agent.transport.local import LocalTransport
 
 from agent.tests import support
@@ -47,6 +49,17 @@ class Spoilt(support.FarmTest):
         self.assertIn("version 2", self.run_on("echo two >> w/f"))
         shutil.rmtree(self.path("w"))
         self.assertIn("one\ntwo\n", self.run_on("cat v/f; cmp v/big big", path="v"))
+
+
+class Closed(support.RoomTest):
+    def test_modes(self) -> None:
+        """Homes and contents are closed to others, also those that were made before."""
+        for name, group, mode in (("new", None, 0o700), ("open", None, 0o700), ("shared", grp.getgrgid(os.getegid()).gr_name, 0o750)):
+            if name != "new":
+                os.mkdir(self.path(name))
+                os.chmod(self.path(name), 0o777)
+            close_to_others(self.path(name), group)
+            self.assertEqual(os.stat(self.path(name)).st_mode & 0o777, mode, name)
 
 
 @unittest.skipUnless(support.has("casync"), support.needs("casync"))

@@ -13,7 +13,7 @@ import unittest
 from typing import Callable
 from unittest import mock
 
-from agent.folders import trees
+from agent.folders import claims, trees
 from agent.store.chunks import chunk_names, chunk_path
 from agent.faults import FarmFault
 from agent.transport.hints import make_key
@@ -226,6 +226,13 @@ class Trees(support.RoomTest):
             self.assertEqual(support.kept(self.store, tree)[0], index)
             trees.extract(self.store, index, self.path(f"out{number}"))
             self.assertEqual(told(self.path(f"out{number}")), told(tree))
+
+    def test_too_large(self) -> None:
+        """A content that no line carries is refused by name, before it is finished."""
+        index = support.kept(self.store, self.tree())[0]
+        with mock.patch("agent.store.folder.LARGEST_CONTENT", len(index) - 1), self.assertRaisesRegex(FarmFault, "TooLarge: the content has .* several folders"):
+            self.store.publish(index)
+        support.kept(self.store, self.path("tree"))
 
     def test_synced_first(self) -> None:
         """No chunk has its name before its bytes are on the device, and its folder is before the index is."""
@@ -492,6 +499,39 @@ class Paths(support.RoomTest):
         other.kill()
         other.communicate()
         self.assertTrue(self.is_free(copied, self.path("w")))
+
+    @unittest.skipUnless(support.is_root and support.has("unshare"), "it needs root")
+    def test_across_namespaces(self) -> None:
+        """A path is held against agents in other network namespaces, and nobody else can take the place of who holds it."""
+        if subprocess.run(["unshare", "-n", "true"], capture_output=True).returncode:
+            self.skipTest("the kernel gives no network namespace")
+        text = (
+            f"import sys, time; sys.path.insert(0, {support.TOP!r})\n"
+            "from agent.folders.places import Places\n"
+            f"with Places({self.path('home')!r}).held({self.path('w/a')!r}):\n"
+            "    print('held', flush=True); time.sleep(600)\n"
+        )
+        other = subprocess.Popen(["unshare", "-n", sys.executable, "-c", text], stdout=subprocess.PIPE, text=True)
+        assert other.stdout
+        other.stdout.readline()
+        free = [self.is_free(Places(self.path("home2")), self.path(name)) for name in ("w", "w/a", "w/a/b", "w/b")]
+        other.kill()
+        other.communicate()
+        self.assertEqual(free, [False, False, False, True])
+        self.assertEqual(os.stat(claims.place()).st_mode & 0o777, 0o700)
+
+    @unittest.skipUnless(support.is_root, "it needs root")
+    def test_of_another_user(self) -> None:
+        """An empty folder that another user made is owned anew."""
+        os.mkdir(self.path("w"))
+        os.chmod(self.path("w"), 0o777)
+        os.chown(self.path("w"), 12345, 12345)
+        Places(self.path("home")).clear(self.path("w"))
+        here = os.stat(self.path("w"))
+        self.assertEqual((here.st_uid, here.st_mode & 0o022), (0, 0))
+        with mock.patch("os.rmdir", side_effect=PermissionError), mock.patch("os.geteuid", return_value=1):
+            with self.assertRaisesRegex(FarmFault, "another user's folder"):
+                Places(self.path("home3")).clear(self.path("w"))
 
     def test_held_within(self) -> None:
         """A path is held also against agents of other homes that want what is around it, however deep it lies."""
