@@ -128,7 +128,7 @@ def _serving_words(verbs: Any) -> None:
 def _run_words(verbs: Any) -> None:
     run = _verb(
         verbs, "run", do_run, "runs a command with its folders leased",
-        "farm run --folder locked:ccache=/tmp/ccache -- make CCACHE_DIR=/tmp/ccache CC='ccache gcc'",
+        "farm run --folder locked:ccache=$HOME/ccache -- make CCACHE_DIR=$HOME/ccache CC='ccache gcc'",
     )
     run.usage = "farm run [OPTION].. [--folder [ro=]FOLDER=PATH].. [--] COMMAND.."
     run.add_argument("--node", type=node, metavar="N", help="the node that runs it (the first one here that isn't retired)")
@@ -186,7 +186,7 @@ def _asking_words(verbs: Any) -> None:
     log = _verb(verbs, "log", _asks("do_log"), "the versions of a folder", "farm log locked:ccache")
     log.add_argument("folder", nargs="?")
     log.add_argument("--lost", action="store_true", help="what generations before this one had beyond the record")
-    get = _verb(verbs, "get", _asks("do_get"), "what a version holds, without a lease", "farm get locked:ccache@3 /tmp/third")
+    get = _verb(verbs, "get", _asks("do_get"), "what a version holds, without a lease", "farm get locked:ccache@3 third")
     get.add_argument("folder", metavar="FOLDER[@NUMBER]")
     get.add_argument("--lost", action="store_true", help="of what farm log --lost shows")
     get.add_argument("to", type=path, metavar="DIR", help="a folder, or - for a tar on the standard output")
@@ -201,6 +201,10 @@ def _asking_words(verbs: Any) -> None:
     put.add_argument("--node", type=node, metavar="N")
     put.add_argument("--wait", type=seconds, metavar="SECONDS")
     _verb(verbs, "doctor", _asks("do_doctor", "care"), "says what of this machine and its farm isn't well, and how to mend it", "farm doctor")
+    backup = _verb(
+        verbs, "backup", _asks("do_backup", "care"), "copies the coordinator's key and record into a file, while it runs", "farm backup farm.tar"
+    )
+    backup.add_argument("to", metavar="FILE")
     prune = _verb(verbs, "prune", _asks("do_prune"), "makes a folder's next version the empty one", "farm prune locked:ccache")
     prune.add_argument("folder")
     gc = _verb(verbs, "gc", _asks("do_gc"), "forgets what nothing needs, on this machine", "farm gc --keep 3")

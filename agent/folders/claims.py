@@ -82,18 +82,18 @@ def _folders_around(path: str) -> Iterator[str]:
 
 def claim(path: str) -> list[Claim] | None:
     """The locks by which a path is claimed; none where it can't be had now. Nothing is made within what others have."""
-    here = place()
+    here, claims = place(), list[Claim]()
+    folders = list(reversed(list(_folders_around(path))))
     with contextlib.ExitStack() as held:
-        claims = list[Claim]()
-        for folder in reversed(list(_folders_around(path))):
-            made = _locked(f"{here}/{_mark(folder)}", fcntl.LOCK_SH)
+        for each in (*folders, path):
+            made = _locked(f"{here}/{_mark(each)}", fcntl.LOCK_EX if each == path else fcntl.LOCK_SH)
             if made is None:
-                return None
+                break
             claims.append(held.enter_context(made))
-            with contextlib.suppress(FileExistsError):
-                os.mkdir(folder)
-        own = _locked(f"{here}/{_mark(path)}", fcntl.LOCK_EX)
-        if own is None:
-            return None
-        held.pop_all()
-        return [*claims, own]
+            if each != path:
+                with contextlib.suppress(FileExistsError):
+                    os.mkdir(each)
+        else:
+            held.pop_all()
+            return claims
+    return None

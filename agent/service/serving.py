@@ -22,7 +22,7 @@ from agent.transport.hints import Hints, make_key, renew_key
 from agent.filters.lines import line_of
 from agent.filters.node import NodeAgent, Setup
 from agent.folders.places import check_outside
-from agent.store.opened import farm_name, open_store
+from agent.store.opened import open_store
 from agent.store.redis import RedisStore
 from agent.transport.redis import RedisTransport
 from agent.runs.run import Job, Run

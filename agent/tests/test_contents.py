@@ -6,6 +6,7 @@ import grp
 import io
 import os
 import shutil
+import tarfile
 import unittest
 
 from agent.faults import FarmFault
@@ -110,6 +111,30 @@ class OldRecords(support.FarmTest):
         up.wait()
         self.up(*words)
         self.assertIn("version 3", self.run_on("true"))
+
+    def test_backup(self) -> None:
+        """A backup that is made while commands commit is a record, closed to others; put back in place of a later one it is noticed."""
+        up = self.up("up", "--nodes", "1")
+        self.run_on("echo one > w/f")
+        working = [self.begin("run", "--folder", f"locked:{name}={name}", "--", "true") for name in "xyz"]
+        self.asked("backup", self.path("farm.tar"))
+        for each in working:
+            each.communicate()
+        self.assertEqual(os.stat(self.path("farm.tar")).st_mode & 0o777, 0o600)
+        self.run_on("echo two > w/f")
+        up.terminate()
+        up.wait()
+        self.assertIn("has no record", self.asked("backup", self.path("none.tar"), "--home", self.path("nowhere"), status=64))
+        os.mkdir(self.path("moved"))
+        for home in (self.home, self.path("moved")):
+            with contextlib.suppress(FileNotFoundError):
+                os.unlink(f"{home}/record.log")
+            with tarfile.open(self.path("farm.tar")) as archive:
+                archive.extractall(home)
+        self.assertIn("older than the farm", self.refused("up", "--nodes", "1"))
+        self.env["FARM_HOME"] = self.path("moved")
+        self.up("up", "--nodes", "1")
+        self.assertRegex(self.asked("log", "locked:c"), r"\Alocked:c version 1 ")
 
     @unittest.skipUnless(support.has("redis-server"), support.needs("redis-server"))
     def test_machines(self) -> None:
