@@ -143,7 +143,7 @@ class FolderStore:
         with self._locked(fcntl.LOCK_EX):
             held = self.holds.held(grace)  # before it is asked: what is answered meanwhile is needed then
             needed = ask() | held
-            oldest = clock_of(self.root) - grace
+            oldest = clock_of(f"{self.root}/lock") - grace
             gone = [d for d in os.listdir(self.indexes) if d not in needed and is_old(f"{self.indexes}/{d}", oldest)]
             had = {name for digest in gone for name in chunk_names(self.index(digest) or b"")}
             for name in gone:

@@ -16,7 +16,7 @@ from typing import Callable
 
 from agent.faults import FarmFault
 from agent.store.chunks import chunk_names, chunk_path, chunk_sizes
-from agent.store.folder import ChunksMissing, FolderStore
+from agent.store.folder import LARGEST_CONTENT, ChunksMissing, FolderStore
 from agent.store.lasting import put_file
 from agent.store.packing import Fresh, unpacked_of
 from agent.transport.redis_wire import Redis, RedisAway, RedisFault, Word
@@ -24,6 +24,8 @@ from agent.transport.redis_wire import Redis, RedisAway, RedisFault, Word
 AT_ONCE = 64  # chunks of one request
 AWAY = 120.0  # seconds for which a server that is away is tried again: what a command made would be lost
 SEAL = 32  # bytes that older agents wrote before a chunk
+SPARE = 1 << 10  # bytes that a chunk may be longer, packed
+HELD_MOST = 1 << 28  # bytes of all that is being made at once
 COMPARED_MOST = 1 << 18  # chunks
 TURNS_MOST = 100  # times that what may be forgotten is looked for
 
@@ -99,7 +101,7 @@ class RedisStore:
 
     def _held(self) -> tuple[bytes, set[str], set[str]]:
         """How often something was held, and the digests and chunks that are held."""
-        count, held = self.server.calls([("GET", f"{self.farm}:holds"), ("HGETALL", f"{self.farm}:held")])
+        count, held = self.server.calls([("GET", f"{self.farm}:holds"), ("HGETALL", f"{self.farm}:held")], HELD_MOST)
         digests, names = set[str](), set[str]()
         for field, index in zip(held[::2], held[1::2]) if isinstance(held, list) else ():
             with contextlib.suppress(FarmFault, AttributeError, TypeError):  # a hold that somebody spoilt
@@ -174,7 +176,7 @@ class RedisStore:
         if found is not None:
             return found
         try:
-            data = self.server.call("GET", self._name("index", digest))
+            data = self.server.call("GET", self._name("index", digest), most=LARGEST_CONTENT)
         except RedisFault:
             return None
         return data if isinstance(data, bytes) and hashlib.sha256(data).hexdigest() == digest else None
@@ -185,7 +187,7 @@ class RedisStore:
             with Fresh(self.chunks) as fresh:
                 for at in range(0, len(missing), AT_ONCE):
                     names = missing[at : at + AT_ONCE]
-                    for name, data in zip(names, self.server.calls([("GET", self._name("chunk", name)) for name in names])):
+                    for name, data in zip(names, self._packed_there(names, sizes)):
                         bad += not self._take(fresh, name, data, sizes[name])
                 fresh.settle()
         except RedisFault as fault:
@@ -195,6 +197,11 @@ class RedisStore:
         path = f"{self.folder.indexes}/{hashlib.sha256(index).hexdigest()}"
         if index and self.folder.index(hashlib.sha256(index).hexdigest()) is None:
             put_file(path, index)  # all of it is here: this machine can offer it
+
+    def _packed_there(self, names: list[str], sizes: dict[str, int]) -> list[object]:
+        """What the server has of some chunks: no more than they can have, packed."""
+        most = sum(sizes[name] + (sizes[name] >> 8) + SPARE for name in names)
+        return list(self.server.calls([("GET", self._name("chunk", name)) for name in names], most))
 
     def _take(self, fresh: Fresh, name: str, data: object, size: int) -> bool:
         """Puts a chunk into the folder, where it is what its name says."""

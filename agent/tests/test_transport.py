@@ -185,7 +185,7 @@ class OverRedis(Carries):
         """A server that goes away late in a long sending is waited for as well. One that never gets further isn't, for ever."""
         now, calls, faults, away = [0.0], list[str](), dict[int, int](), list[str]()
 
-        def call(commands: list[list[str]]) -> list[int]:
+        def call(commands: list[list[str]], most: int = 0) -> list[int]:
             if commands[0][1] == HOLD:
                 return [1]
             now[0] += 50
@@ -273,8 +273,10 @@ class OverRedis(Carries):
 
     def test_password(self) -> None:
         with support.redis_server(self.room, "--requirepass", "a b") as url:
-            with self.assertRaisesRegex(Missing, "NOAUTH"):
+            with self.assertRaisesRegex(Missing, "the Redis server at redis://127.0.0.1:[0-9]+ refuses: NOAUTH"):
                 Redis(url)
+            with self.assertRaisesRegex(Missing, "refuses: WRONGPASS"):
+                Redis(url.replace("//", "//:wrong@"))
             Redis(url.replace("//", "//:a%20b@") + "/3").call("SET", "x", 5)
             self.assertEqual(Redis(url.replace("//", "//default:a%20b@") + "/3").call("GET", "x"), b"5")
         with self.assertRaisesRegex(Missing, "no Redis server answers at redis://127.0.0.1:1: Connection refused"):
@@ -315,12 +317,29 @@ class Servers(unittest.TestCase):
         for said in strange:
             store = RedisStore.__new__(RedisStore)
             store.server, store.farm, store.folder, store.lock = mock.Mock(), "t", mock.Mock(index=lambda digest: None), threading.Lock()
-            store.server.call = lambda *words: said
-            store.server.calls = lambda commands: [said] * len(commands)
+            store.server.call = lambda *words, most=0: said
+            store.server.calls = lambda commands, most=0: [said] * len(commands)
             self.assertFalse(store.keeps_well())
             with contextlib.suppress(FarmFault):
                 self.assertEqual(store.forget(lambda: set(), 0), (0, 0))
             self.assertIsNone(store.index("0" * 64))
+
+    def test_bounded(self) -> None:
+        """A reply is bounded by what was asked for: what is longer is a fault before it is taken."""
+        with socket.create_server(("127.0.0.1", 0)) as server:
+            def answers() -> None:
+                for _ in range(2):
+                    link, _ = server.accept()
+                    with link, contextlib.suppress(OSError):
+                        link.recv(1000)
+                        link.sendall(b"$3000000\r\n" + bytes(3_000_000) + b"\r\n")
+
+            thread = threading.Thread(target=answers)
+            thread.start()
+            with self.assertRaisesRegex(RedisFault, "too long"):
+                server_of(server.getsockname()[1]).call("GET", "x")
+            self.assertEqual(len(server_of(server.getsockname()[1]).call("GET", "x", most=3_000_000)), 3_000_000)
+            thread.join()
 
     def test_loads(self) -> None:
         """A server that still loads its data is waited for."""
