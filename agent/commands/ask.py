@@ -126,7 +126,7 @@ def do_withdraw(args: argparse.Namespace) -> int:
 
 
 def do_retire(args: argparse.Namespace) -> int:
-    return operate(args, RetireRequest(node=args.node, is_gone=args.gone))
+    return operate(args, RetireRequest(node=args.node, is_gone=args.gone, is_last_too=args.yes))
 
 
 def do_prune(args: argparse.Namespace) -> int:

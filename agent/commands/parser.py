@@ -195,6 +195,7 @@ def _asking_words(verbs: Any) -> None:
     retire = _verb(verbs, "retire", _asks("do_retire"), "ends a node for good", "farm retire 3")
     retire.add_argument("node", type=node, metavar="N")
     retire.add_argument("--gone", action="store_true", help="the node is gone for good: you vouch that all it ran is over")
+    retire.add_argument("--yes", action="store_true", help="also where no other node is left")
     put = _verb(verbs, "put", _asks("do_put", "care"), "makes a folder's next version what DIR holds", "farm put locked:ccache ~/.ccache")
     put.add_argument("folder")
     put.add_argument("source", type=path, metavar="DIR")

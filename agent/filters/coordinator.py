@@ -38,6 +38,7 @@ class CoordinatorAgent:
     def __init__(self, setup: Setup, lease_timeout: float | None = None, nodes: int = 0, has_broker: bool = False) -> None:
         self.setup, self.lease_timeout, self.nodes = setup, lease_timeout, nodes
         self.hints = Hints(setup.key)
+        # The thread that hears lines changes these, others read single values: `heard`, `spoke`, `left`, `looked`. `lock` has `since` and `last`.
         self.since: dict[int, float] = {}  # of a ticket: when this agent saw it granted
         self.heard: dict[int, float] = {}  # of a node: the time of day at which it was heard
         self.spoke: dict[int, float] = {}  # of a node: the same by the clock that nobody sets
@@ -74,9 +75,10 @@ class CoordinatorAgent:
         for line in lines:
             words = line.split(" ")
             if words[0] == "granted":
-                self.since[int(words[4])] = time.time()
-                while len(self.since) > SINCE_MOST:
-                    self.since.pop(next(iter(self.since)))
+                with self.lock:
+                    self.since[int(words[4])] = time.time()
+                    while len(self.since) > SINCE_MOST:
+                        del self.since[next(iter(self.since))]
 
     def _hear_fact(self, words: list[str]) -> None:
         if words[0] in ("ended", "outdated", "gone") and len(words) > 1:
@@ -236,7 +238,9 @@ class CoordinatorAgent:
 
     def _lease(self, words: list[str]) -> Lease:
         ticket, node, life, ask = (int(word) for word in words[:4])
-        return Lease(ticket=ticket, node=node, life=life, ask=ask, kind=words[4], slots=tuple(words[5:]), since=self.since.get(ticket))
+        with self.lock:
+            since = self.since.get(ticket)
+        return Lease(ticket=ticket, node=node, life=life, ask=ask, kind=words[4], slots=tuple(words[5:]), since=since)
 
     def _waiting(self, words: list[str]) -> Waiting:
         node, life, ask = (int(word) for word in words[1:4])
@@ -251,10 +255,13 @@ class CoordinatorAgent:
 
     def _last_versions(self, slot: str, number: int, count: int) -> tuple[Version, ...]:
         """Asked of the filter only where the folder has a new one."""
-        known = self.last.get(slot)
+        with self.lock:
+            known = self.last.get(slot)
         if known is None or known[0] != number or len(known[1]) < min(count, number):
             versions = self.versions(slot)[-count:][::-1]
-            known = self.last[slot] = (number, tuple(version._replace(size=self._size(version.digest)) for version in versions))
+            known = (number, tuple(version._replace(size=self._size(version.digest)) for version in versions))
+            with self.lock:
+                self.last[slot] = known
         return known[1][:count]
 
     def _size(self, digest: str) -> int | None:
@@ -290,9 +297,12 @@ class CoordinatorAgent:
             raise FarmFault(f"{' '.join(words)}: {answer.note}{f': {why}' if why else ''}")
         return answer.note
 
-    def retire(self, node: int, is_gone: bool) -> str:
-        """Retires a node. Of one that is gone for good a life from an empty store says Hello first, which ends its tenures: whoever
-        says that it is gone vouches that its executions are over."""
+    def retire(self, node: int, is_gone: bool, is_last_too: bool = False) -> str:
+        """Retires a node, and tells it. Of one that is gone for good a life from an empty store says Hello first, which ends its tenures:
+        whoever says that it is gone vouches that its executions are over."""
+        status = self.status()
+        if not is_last_too and {*map(int, status.lives)} - {*status.gone} == {node}:
+            raise UsageFault(f"node {node} is the last one that isn't retired, and no command runs without one: farm retire {node} --yes does it")
         if is_gone:
             with tempfile.TemporaryDirectory(dir=self.setup.home) as room:
                 words = ["node", "--node", str(node), "--nodes", "1024", "--store", f"{room}/filter", "--key", self.setup.key]
@@ -305,7 +315,9 @@ class CoordinatorAgent:
                 finally:
                     last.close()
         try:
-            return self.operate("retire", str(node))
+            done = self.operate("retire", str(node))
+            self.setup.transport.send(node_address(node), self.hints.seal(f"gone {node}"))
+            return done
         except FarmFault as fault:
             if "TenureHeld" in str(fault) and not is_gone:
                 raise FarmFault(

@@ -76,6 +76,7 @@ class NodeAgent:
         self.knowledge = Knowledge(f"{self.home}/known", self.hints.generation())
         self.older = older(f"{self.home}/known")
         self.divided = ""  # why it takes part in nothing more
+        # The lock of `changed` has the following, which several threads use.
         self.unwanted: set[tuple[int, int]] = set()  # epoch and ask: nobody waits for them, and no call takes them back
         self.holders: dict[int, str] = {}  # of an ask: who has its folders
         self.running: set[int] = set()  # tickets of commands
@@ -123,24 +124,41 @@ class NodeAgent:
         words = note.split(" ")
         if words[0] == "life":
             self.life = int(words[1])
-            self.unwanted = {each for each in list(self.unwanted) if each[0] == self.talk.epoch}
+            with self.changed:
+                self.unwanted = {each for each in self.unwanted if each[0] == self.talk.epoch}
         if note not in ("nothing", "resent") and words[0] not in STATES:
             self.log(note[:160])
         if words[0] == "took":
             grant = grant_of(words[1:])
             self.know(grant.ticket, ((slot.name, slot.base, slot.digest) for slot in grant.slots))
-            if (self.talk.epoch, grant.ask) in self.unwanted:
-                self.unwanted.discard((self.talk.epoch, grant.ask))
+            if self._forgets_unwanted(self.talk.epoch, grant.ask):
                 threading.Thread(target=self.give_back, args=(grant.ticket, self.talk.epoch), daemon=True).start()
         if words[0] == "learned":
-            self.learned[int(words[1])] = versions_of(words[2:])
             self.know(int(words[1]), told(words[2:]))
-            while len(self.learned) > REMEMBERED:
-                del self.learned[next(iter(self.learned))]
+            with self.changed:
+                self.learned[int(words[1])] = versions_of(words[2:])
+                while len(self.learned) > REMEMBERED:
+                    del self.learned[next(iter(self.learned))]
         if words[0] == "recalled":
             threading.Thread(target=self.shared.recall, args=(int(words[1]),), daemon=True).start()
         if words[0] in AWAITED:
             self.wake()
+
+    def _forgets_unwanted(self, epoch: int, ask: int) -> bool:
+        """Whether nobody waited for an ask, which is over."""
+        with self.changed:
+            was_unwanted = (epoch, ask) in self.unwanted
+            self.unwanted.discard((epoch, ask))
+            return was_unwanted
+
+    def runs(self, ticket: int, is_over: bool = False) -> None:
+        """A command begins under a ticket, or has ended."""
+        with self.changed:
+            if is_over:
+                self.running.discard(ticket)
+                self.ended.discard(ticket)
+            else:
+                self.running.add(ticket)
 
     def know(self, ticket: int, versions: Iterable[tuple[str, int, str]]) -> None:
         """Takes what was told of the farm. Where another version is known by its number, two coordinators gave it out, or an old record did."""
@@ -190,7 +208,8 @@ class NodeAgent:
                 line = self.setup.transport.receive(node_address(self.node), 1.0)
                 if time.monotonic() - heard > HEARTBEAT:
                     heard = time.monotonic()
-                    here = " ".join(map(str, ["here", self.node, *list(self.running)]))
+                    with self.changed:
+                        here = " ".join(map(str, ["here", self.node, *self.running]))
                     self.setup.transport.send(COORDINATOR, self.hints.seal(here))
                     self._tell_left()
                     self.merged.tell()
@@ -218,9 +237,11 @@ class NodeAgent:
 
     def _hear_hint(self, words: list[str]) -> None:
         if words[0] == "ended" and int(words[2]) == self.node:
-            self.ended.add(int(words[1]))
+            with self.changed:
+                self.ended.add(int(words[1]))
         elif words[0] == "held" and int(words[1]) == self.node:
-            self.holders[int(words[2])] = " ".join(words[3:])
+            with self.changed:
+                self.holders[int(words[2])] = " ".join(words[3:])
         elif words[0] == "needed" and int(words[1]) == self.node:
             self.needs.take(words[2:])
         elif words[0] == "lastis" and int(words[1]) == self.node:
@@ -233,6 +254,7 @@ class NodeAgent:
             return self.know(int(words[2]), told(words[3:]))
         elif words[0] == "gone" and int(words[1]) == self.node:
             self.retired = True
+            self.places.retire()
         elif words[0] == "outdated" and int(words[1]) == self.node and int(words[2]) > self.life:
             tell(f"a later life of node {self.node} was heard, so a new one begins here: does another agent run as node {self.node}?")
             self.talk.restart(self.talk.epoch)
@@ -246,9 +268,10 @@ class NodeAgent:
     def _offer(self, node: int, digest: str) -> None:
         """Gives the store a content that another node misses there, where this one has it."""
         now = time.monotonic()
-        if now - self.offered.get(digest, -LACK_EVERY) < LACK_EVERY:
-            return
-        self.offered[digest] = now
+        with self.changed:
+            if now - self.offered.get(digest, -LACK_EVERY) < LACK_EVERY:
+                return
+            self.offered[digest] = now
         if self.store.offer(digest):
             self.log(f"node {node} missed the content {digest}: it is in the store anew")
             self.setup.transport.send(node_address(node), self.hints.seal(f"offered {node}"))
@@ -321,25 +344,28 @@ class NodeAgent:
                 raise WaitOver(f"{fault}: {UNHEARD}") from None
             raise
         finally:
-            self.holders.pop(ask, None)
+            with self.changed:
+                self.holders.pop(ask, None)
         if words[0] != "granted":
             raise FarmFault(f"it wasn't granted: {' '.join(words)}")
         return grant_of(words[1:])
 
     def _leave(self, ask: int, epoch: int) -> None:
         """Nobody waits for an ask any more: its lease is given back, now or as soon as it is granted."""
-        self.unwanted.add((epoch, ask))
+        with self.changed:
+            self.unwanted.add((epoch, ask))
         with contextlib.suppress(FarmFault, OSError):
             words = self.call(f"state {ask}", epoch).note.split(" ")
             if words[0] == "granted":
                 self.give_back(grant_of(words[1:]).ticket, epoch)
             if words[0] in ("granted", "denied", "none"):
-                self.unwanted.discard((epoch, ask))
+                self._forgets_unwanted(epoch, ask)
         self._tell_left()
 
     def _tell_left(self) -> None:
         """Says for which asks nobody waits any more: no call takes them back, so they stand until they are granted."""
-        asks = [str(ask) for epoch, ask in list(self.unwanted) if epoch == self.talk.epoch]
+        with self.changed:
+            asks = [str(ask) for epoch, ask in self.unwanted if epoch == self.talk.epoch]
         if asks:
             self.setup.transport.send(COORDINATOR, self.hints.seal(" ".join(["left", str(self.node), str(self.life), *asks])))
 

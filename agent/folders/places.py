@@ -198,6 +198,23 @@ class Places:
     def _is_ours(self, path: str) -> bool:
         return self._read(path)[:3] == [path, os.lstat(path).st_dev, identity(path)]
 
+    def retire(self) -> None:
+        """The node was retired: another one of this machine may have its paths."""
+        put_file(f"{self.home}/retired", b"")
+
+    def _is_left(self, path: str) -> bool:
+        """Whether a node of this home that was retired made the folder at a path."""
+        farm = os.path.dirname(os.path.dirname(self.home))
+        homes = [f"{farm}/{name}/places" for name in os.listdir(farm) if name.startswith("node")]
+        rows = [_list_of(f"{home}/{short_name(path, 'path')}.json") for home in homes if os.path.exists(f"{home}/retired")]
+        return [path, os.lstat(path).st_dev, identity(path)] in [row[:3] for row in rows]
+
+    def size_of(self, digest: str) -> str:
+        """How much a version holds, in words, where it is in memory."""
+        version = self.versions.find(digest)
+        sizes = [entry.size for entry in version.listing.values() if entry.kind == "f"] if version else []
+        return f": {len(sizes)} file{'s' * (len(sizes) != 1)}, {sum(sizes)} bytes" if version else ""
+
     def _held(self, path: str) -> Held:
         """What is known of what a path holds."""
         found = self.known.pop(path, None) or Held(path, f"{self._place(path)}.marks")
@@ -212,7 +229,7 @@ class Places:
             if not is_folder(path):
                 raise FarmFault(f"{path} is there, and is no folder")
             if os.listdir(path):
-                if not self._is_ours(path):
+                if not self._is_ours(path) and not self._is_left(path):
                     raise FarmFault(f"{path} is there, and wasn't made by this node: name a path that is free")
                 self.trash.take(path)
         own_anew(path)

@@ -221,7 +221,7 @@ class Run:
                 self.agent.give_back(grant.ticket, self.epoch)
             raise
         finally:
-            self.agent.ended.discard(grant.ticket)
+            self.agent.runs(grant.ticket, is_over=True)
             if not self.finished:
                 self._release(True)  # nothing of it is committed
 
@@ -322,12 +322,12 @@ class Run:
             execution = executions.start(self.command, job.cwd, self.env, self.caller.streams, binds, job.umask)
         self.caller.signalled = execution.signal
         if grant:
-            agent.running.add(grant.ticket)
+            agent.runs(grant.ticket)
         try:
             return self._watch(grant, execution)
         finally:
             if grant:
-                agent.running.discard(grant.ticket)
+                agent.runs(grant.ticket, is_over=True)
             self.caller.signalled = None
             execution.end()
             executions.over(execution)
@@ -356,8 +356,8 @@ class Run:
                 execution.end()
 
     def _settle(self, grant: Grant, status: int, ending: Ending, had_news: bool) -> int:
-        for slot, (number, _) in ending.versions.items():
-            self.caller.say(f"committed {grant.ticket} {slot} version {number}")
+        for slot, (number, digest) in ending.versions.items():
+            self.caller.say(f"committed {grant.ticket} {slot} version {number}{self.agent.places.size_of(digest)}")
         self.how = ending.how
         if ending.how == "fenced":
             self.caller.say(f"fenced {grant.ticket}: the lease had ended, and what the command left doesn't count")

@@ -34,6 +34,7 @@ class WithdrawRequest(NamedTuple):
 class RetireRequest(NamedTuple):
     node: int
     is_gone: bool  # the operator vouches that all it ran is over
+    is_last_too: bool = False  # also where no other node is left
 
 
 class PruneRequest(NamedTuple):

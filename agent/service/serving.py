@@ -5,6 +5,7 @@ Owes the filters that one agent alone serves a home, which their own locks see t
 from __future__ import annotations
 
 import contextlib
+import math
 import os
 import signal
 import socket
@@ -215,8 +216,12 @@ def _serve(served: Served, name: str, handler: Handler) -> None:
 
 def serve(wanted: Wanted) -> int:
     """Serves, and ends well whatever ends it."""
-    over = threading.Event()
+    over, leaving = threading.Event(), threading.Event()
     open_many()
+    if wanted.while_used:
+        signal.signal(signal.SIGUSR1, lambda *_: leaving.set())
+    elif wanted.coordinator:
+        take_over(wanted.home)
     served = begin(wanted)  # until it stands a signal ends this process at once
     for number in (signal.SIGINT, signal.SIGTERM, signal.SIGHUP):
         if signal.getsignal(number) != signal.SIG_IGN:  # whoever started it keeps it off, as nohup does
@@ -229,7 +234,7 @@ def serve(wanted: Wanted) -> int:
             open(mark, "w").close()  # it stands until a farm that people started has ended well: till then no command starts another in its place
         show("up", at_once=True)
         notify("READY=1")
-        _stand(served, over)
+        _stand(served, over, leaving)
     finally:
         notify("STOPPING=1")
         served.stop()
@@ -249,13 +254,28 @@ def notify(text: str) -> None:
             link.send(text.encode())
 
 
-def _stand(served: Served, over: threading.Event) -> None:
-    """Waits until it is told to end, or nobody uses it any more."""
+def take_over(home: str) -> None:
+    """Ends the farm that a command started here for itself, once nobody uses it."""
+    path, told = f"{home}/coordinator.sock", time.monotonic() + 1.0
+    if os.path.exists(f"{home}/served") or not is_there(path):
+        return
+    with contextlib.suppress(OSError, ValueError), open(f"{home}/pid") as file:
+        os.kill(int(file.read()), signal.SIGUSR1)
+    while os.path.exists(f"{home}/pid") and is_there(path):
+        if time.monotonic() > told:
+            tell(f"waiting for the farm that a command started in {home}: other commands use it yet")
+            told = math.inf
+        time.sleep(0.05)
+
+
+def _stand(served: Served, over: threading.Event, leaving: threading.Event) -> None:
+    """Waits until it is told to end, or nobody uses it any more: at once where another one takes it over."""
     wanted = served.wanted
     while not over.wait(0.5):
         if served.coordinator:
             served.coordinator.watch.check()
-        if wanted.while_used and not served.is_busy() and time.monotonic() - max(service.used for service in served.services) > IDLE:
+        idle = time.monotonic() - max(service.used for service in served.services)
+        if wanted.while_used and not served.is_busy() and (idle > IDLE or leaving.is_set()):
             for service in served.services:
                 service.close()
             over.wait(0.2)  # who asked just now is answered yet
@@ -329,7 +349,7 @@ def answer_operator(agent: CoordinatorAgent, wanted: Wanted, request: object, li
     elif isinstance(request, WithdrawRequest):
         link.say(agent.operate("withdraw", str(request.ticket)))
     elif isinstance(request, RetireRequest):
-        link.say(agent.retire(request.node, request.is_gone))
+        link.say(agent.retire(request.node, request.is_gone, request.is_last_too))
     elif isinstance(request, PruneRequest):
         slots = agent.slots_of(request.folder)
         if not slots:

@@ -6,10 +6,17 @@ import grp
 import io
 import os
 import shutil
+import subprocess
+import sys
 import tarfile
+import threading
+import time
 import unittest
+from typing import Callable
+from unittest import mock
 
-from agent.faults import FarmFault
+from agent.faults import FarmFault, LifeOver
+from agent.filters.coordinator import CoordinatorAgent
 from agent.filters.node import NodeAgent
 from agent.service.serving import close_to_others
 from agent.transport.local import LocalTransport
@@ -160,6 +167,96 @@ class OldRecords(support.FarmTest):
                 self.assertIn("older than the farm", self.refused(*words, self.path(home)))
             self.up(*words, self.path("c"))
             self.assertIn("version 3", self.run_on("echo three > w/f"))
+
+
+@unittest.skipUnless(support.has("casync"), support.needs("casync"))
+class Operated(support.FarmTest):
+    def test_retired(self) -> None:
+        """Behind a retired node another one has its paths. The last one is retired only by --yes. A commit says how much it has."""
+        self.up("up", "--nodes", "2")
+        words = ("--folder", "locked:c=w", "--", "sh", "-c", "echo one >> w/f; cat w/f")
+        self.assertIn("version 1: 1 file, 4 bytes\n", self.farm("run", "--node", "1", *words).stderr)
+        self.assertIn("wasn't made by this node", self.farm("run", "--node", "2", *words, status=70).stderr)
+        self.asked("retire", "1")
+        support.until(lambda: os.path.exists(f"{self.home}/node1/places/retired"))
+        self.assertEqual(self.farm("run", "--node", "2", *words).stdout, "one\none\n")
+        self.assertIn("the last one", self.asked("retire", "2", status=64))
+        self.assertIn("retired", self.asked("retire", "2", "--yes"))
+
+    def test_taken_over(self) -> None:
+        """A farm that people start ends the idle one of a command, and waits for one that is in use."""
+        self.farm("run", "--folder", "locked:c=w", "--", "sh", "-c", "echo one > w/f")
+        begun = time.monotonic()
+        up = self.up("up", "--nodes", "1")
+        self.assertLess(time.monotonic() - begun, 8)
+        self.assertIn("version 2", self.farm("run", "--folder", "locked:c=w", "--", "true").stderr)
+        up.terminate()
+        up.wait()
+        using = self.begin("run", "--", "sh", "-c", "touch begun; sleep 3")
+        self.wait_for(self.path("begun"))
+        up = subprocess.Popen([*support.FARM, "up", "--nodes", "1"], env=self.env, stdout=subprocess.PIPE, stderr=subprocess.PIPE, text=True)
+        self.ups.append(up)
+        self.hear(up, "waiting for the farm that a command started")
+        assert up.stdout
+        self.assertEqual(up.stdout.readline(), "up\n")
+        self.assertEqual(using.wait(), 0)
+
+    def test_broker_named(self) -> None:
+        """Where a broker is named no farm of its own is begun in a home that isn't there."""
+        self.env["FARM_BROKER"] = "redis://127.0.0.1:1"
+        self.assertIn("unset FARM_BROKER", self.asked("run", "--", "true", status=64))
+        self.assertFalse(os.path.exists(self.home))
+
+
+class Raced(support.RoomTest):
+    """Values that several threads change."""
+
+    def setUp(self) -> None:
+        super().setUp()
+        self.setup_of = support.setup_of(self.room, support.PRACTICE, LocalTransport())
+
+    def race(self, *works: Callable[[], None]) -> None:
+        faults = list[BaseException]()
+
+        def run(work: Callable[[], None]) -> None:
+            try:
+                for _ in range(300):
+                    work()
+            except BaseException as fault:
+                faults.append(fault)
+
+        threads = [threading.Thread(target=run, args=(work,)) for work in works]
+        before = sys.getswitchinterval()
+        sys.setswitchinterval(1e-6)
+        try:
+            for thread in threads:
+                thread.start()
+            for thread in threads:
+                thread.join()
+        finally:
+            sys.setswitchinterval(before)
+        self.assertEqual(faults, [])
+
+    def test_unwanted(self) -> None:
+        """An ask that nobody waits for any more isn't forgotten where a life begins just then."""
+        agent, asks = NodeAgent(1, 1, self.setup_of), iter(range(1000))
+
+        def leave() -> None:
+            ask = next(asks)
+            agent._leave(ask, 0)
+            self.assertTrue(agent._forgets_unwanted(0, ask), ask)
+
+        with mock.patch.object(agent, "call", side_effect=LifeOver):
+            for ask in range(2000, 4000):
+                agent._leave(ask, 0)
+            self.race(leave, lambda: agent._hear_note("life 5"))
+
+    def test_since(self) -> None:
+        agent, tickets = CoordinatorAgent(self.setup_of), iter(range(10**6))
+        with mock.patch("agent.filters.coordinator.SINCE_MOST", 5):
+            work = lambda: agent._hear_grants([f"granted 1 1 1 {next(tickets)} plain locked:a=0:00 aa" for _ in range(20)])  # noqa: E731
+            self.race(work, work, work)
+        self.assertEqual(len(agent.since), 5)
 
 
 class Divided(support.RoomTest):
