@@ -123,6 +123,9 @@ def _serving_words(verbs: Any) -> None:
         made.add_argument("--verbose", action="store_true", help="says what the filters answer")
     for made in (up, coordinator):
         made.add_argument(
+            "--restored", action="store_true", help="vouches for a record that is older than the farm: begins a new generation, with a new key"
+        )
+        made.add_argument(
             "--lease-timeout", type=seconds, metavar="SECONDS", help="withdraws the leases of a node that wasn't heard for so long"
         )
     for made in (coordinator, one):
@@ -133,7 +136,7 @@ def _serving_words(verbs: Any) -> None:
 def _run_words(verbs: Any) -> None:
     run = _verb(
         verbs, "run", do_run, "runs a command with its folders leased",
-        "farm run --folder locked:ccache=/tmp/ccache -- make CCACHE_DIR=/tmp/ccache CC='ccache gcc'",
+        "farm run --folder locked:ccache=$HOME/ccache -- make CCACHE_DIR=$HOME/ccache CC='ccache gcc'",
     )
     run.usage = "farm run [OPTION].. [--folder [ro=]FOLDER=PATH].. [--] COMMAND.."
     run.add_argument("--node", type=node, metavar="N", help="the node that runs it (the first one here that isn't retired)")
@@ -190,21 +193,28 @@ def _asking_words(verbs: Any) -> None:
     web.add_argument("--port", type=int, required=True)
     web.add_argument("--address", default="127.0.0.1", help="the address that it listens at (%(default)s): who reaches it may read all")
     log = _verb(verbs, "log", _asks("do_log"), "the versions of a folder", "farm log locked:ccache")
-    log.add_argument("folder")
-    get = _verb(verbs, "get", _asks("do_get"), "what a version holds, without a lease", "farm get locked:ccache@3 /tmp/third")
+    log.add_argument("folder", nargs="?")
+    log.add_argument("--lost", action="store_true", help="what generations before this one had beyond the record")
+    get = _verb(verbs, "get", _asks("do_get"), "what a version holds, without a lease", "farm get locked:ccache@3 third")
     get.add_argument("folder", metavar="FOLDER[@NUMBER]")
+    get.add_argument("--lost", action="store_true", help="of what farm log --lost shows")
     get.add_argument("to", type=path, metavar="DIR", help="a folder, or - for a tar on the standard output")
     withdraw = _verb(verbs, "withdraw", _asks("do_withdraw"), "ends a lease: its holder's commit won't count", "farm withdraw 17")
     withdraw.add_argument("ticket", type=ticket, metavar="T")
     retire = _verb(verbs, "retire", _asks("do_retire"), "ends a node for good", "farm retire 3")
     retire.add_argument("node", type=node, metavar="N")
     retire.add_argument("--gone", action="store_true", help="the node is gone for good: you vouch that all it ran is over")
+    retire.add_argument("--yes", action="store_true", help="also where no other node is left")
     put = _verb(verbs, "put", _asks("do_put", "care"), "makes a folder's next version what DIR holds", "farm put locked:ccache ~/.ccache")
     put.add_argument("folder")
     put.add_argument("source", type=path, metavar="DIR")
     put.add_argument("--node", type=node, metavar="N")
     put.add_argument("--wait", type=seconds, metavar="SECONDS")
     _verb(verbs, "doctor", _asks("do_doctor", "care"), "says what of this machine and its farm isn't well, and how to mend it", "farm doctor")
+    backup = _verb(
+        verbs, "backup", _asks("do_backup", "care"), "copies the coordinator's key and record into a file, while it runs", "farm backup farm.tar"
+    )
+    backup.add_argument("to", metavar="FILE")
     prune = _verb(verbs, "prune", _asks("do_prune"), "makes a folder's next version the empty one", "farm prune locked:ccache")
     prune.add_argument("folder")
     gc = _verb(verbs, "gc", _asks("do_gc"), "forgets what nothing needs, on this machine", "farm gc --keep 3")

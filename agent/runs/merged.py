@@ -60,6 +60,7 @@ class Own:
     removed: int = 0
     since: float = field(default_factory=time.time)
     state: str = "running"
+    kept: list[str] = field(default_factory=list)  # digests that are held until a commit is answered
 
 
 @dataclass(frozen=True)
@@ -321,6 +322,16 @@ class MergedFolders:
 
     def _turn(self, own: Own, rule: str, patience: Patience) -> Counted | None:
         """Merges, leases, and commits once. None where the lease was lost."""
+        try:
+            return self._turn_held(own, rule, patience)
+        finally:
+            self._release(own.kept, True)  # no commit names what is held yet
+
+    def _release(self, kept: list[str], is_answered: bool) -> None:
+        while kept:
+            self.agent.store.release(kept.pop(), is_answered)
+
+    def _turn_held(self, own: Own, rule: str, patience: Patience) -> Counted | None:
         agent = self.agent
         with agent.store.making():
             self._merge(own, self.last(own.slot, patience), rule, patience)
@@ -347,7 +358,8 @@ class MergedFolders:
             if not isinstance(fault, LifeOver):
                 agent.give_back(grant.ticket, epoch)
             raise
-        ending = agent.ending(ask, grant.ticket, epoch, patience.caller, patience)
+        kept, own.kept = own.kept, []
+        ending = agent.ending(ask, grant.ticket, epoch, patience.caller, patience, lambda is_answered: self._release(kept, is_answered))
         agent.log(f"the lease {grant.ticket} of a merge was held for {time.monotonic() - leased:.2f} s{', and merged again under it' if is_late else ''}")
         if ending.how != "committed":
             return None
@@ -390,7 +402,7 @@ class MergedFolders:
             patience.check()
 
         version = index.make(own.held, own.base if own.base.index else none(agent.store.chunks), agent.store.chunks)
-        agent.store.publish(version.index, away, own.base.index)
+        own.kept.append(agent.store.publish(version.index, away, own.base.index))
         own.held.stands = version.digest
         agent.places.versions.add(version)
         return version.index
