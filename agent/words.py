@@ -14,6 +14,7 @@ EMPTY = "e3b0c44298fc1c149afbf4c8996fb92427ae41e4649b934ca495991b7852b855"  # of
 SHARINGS = ("shared", "private", "locked")
 USES = (*SHARINGS, "merged")  # what a command may do with a folder: of a `merged` one the slot is that of the `locked` one
 MOST_FOLDERS = 16  # of one lease
+LONGEST_FOLDER = 4096  # characters of a folder's text that a command names
 WANTED = re.compile(r"(shared|private|locked|merged):((?:[!-\"$&-?A-~]|%[0-9A-F]{2})*)(@[0-9a-f]{64}\.\d{1,19})?")
 FOLDER = re.compile(WANTED.pattern.replace("|merged", ""))
 DIGEST = re.compile(r"[0-9a-f]{64}")
@@ -70,6 +71,10 @@ def want_of(word: str) -> Want:
         raise UsageFault(f"--folder wants FOLDER=PATH, as locked:ccache=/tmp/ccache, and got {word!r}")
     if whole < 0 and "=" in folder:
         raise UsageFault(f"{word!r} has several =, and each may end the folder: name the path from / on")
+    if path.startswith("~"):
+        raise UsageFault(f"{word!r}: no shell has replaced the ~ of this path. Write $HOME in its place")
+    if len(folder) > LONGEST_FOLDER:
+        raise UsageFault(f"{folder[:60]}.. is too long: a folder has at most {LONGEST_FOLDER} characters")
     if not WANTED.fullmatch(folder):
         sharing, colon, identifier = folder.partition(":")
         hint = f": write {folder_text(sharing, identifier)}" if colon and sharing in USES else ""

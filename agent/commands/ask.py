@@ -7,11 +7,13 @@ from __future__ import annotations
 import argparse
 import json
 import os
+import subprocess
+import tempfile
 import time
 from typing import TYPE_CHECKING
 
 from agent.commands.run import node_sockets
-from agent.faults import FarmFault, UsageFault, show
+from agent.faults import FAULT, FarmFault, UsageFault, show
 from agent.service import client
 from agent.service.carried import plain
 from agent.service.operators import LogRequest, PruneRequest, RetireRequest, Status, StatusRequest, Versions, WithdrawRequest
@@ -50,11 +52,14 @@ def do_status(args: argparse.Namespace) -> int:
     for waiting in told.waiting:
         left = ", and nobody there wants it any more" if waiting.left else ""
         show(f"node {waiting.node} waits for {', '.join(waiting.folders)}{left}")
+    for each in told.snapshots:
+        what = f"runs a command on {each.slot} version {each.version}" if each.state == "running" else f"merges into {each.slot}"
+        show(f"node {each.node} {what} {_ago(each.since)}")
     for folder in told.folders:
         show(f"{folder.slot} is at version {folder.version}")
     for node in told.gone:
         show(f"node {node} was retired")
-    if not told.leases and not told.waiting:
+    if not told.leases and not told.waiting and not told.snapshots:
         show("nobody has or wants a folder")
     return 0
 
@@ -62,8 +67,8 @@ def do_status(args: argparse.Namespace) -> int:
 def do_web(args: argparse.Namespace) -> int:
     from agent.web import web
 
-    def read() -> object:
-        return plain(client.told_at(coordinator_of(args), StatusRequest(last=LAST), Status, shows=False))
+    def read() -> Status:
+        return client.told_at(coordinator_of(args), StatusRequest(last=LAST), Status, shows=False)
 
     return web.serve(args.address, args.port, read)
 
@@ -72,7 +77,7 @@ def do_log(args: argparse.Namespace) -> int:
     told = client.told_at(coordinator_of(args), LogRequest(folder=args.folder), Versions)
     for slot, versions in told.slots.items():
         for version in versions:
-            show(f"{slot} version {version.version} ticket {version.ticket} {version.digest}")
+            show(f"{slot} version {version.version} ticket {version.ticket} {version.digest}{version.note and ' '}{version.note}")
     if not told.slots:
         raise FarmFault(f"{args.folder} has no version")
     return 0
@@ -93,8 +98,12 @@ def do_get(args: argparse.Namespace) -> int:
     index = store.index(found[-1].digest)
     if index is None:
         raise FarmFault(f"the content of version {found[-1].version} isn't in the store any more")
-    trees.extract_whole(store, index, os.path.abspath(args.to))
-    return 0
+    if args.to != "-":
+        trees.extract_whole(store, index, os.path.abspath(args.to))
+        return 0
+    with tempfile.TemporaryDirectory() as room:
+        trees.extract_whole(store, index, f"{room}/folder")
+        return subprocess.run(["tar", "-C", f"{room}/folder", "-c", "."], stdin=subprocess.DEVNULL).returncode and FAULT
 
 
 def store_at(home: str, place: StorePlace) -> Store:

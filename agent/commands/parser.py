@@ -82,12 +82,12 @@ def path(text: str) -> str:
     return text
 
 
-def _asks(name: str) -> Callable[[argparse.Namespace], int]:
-    """A command of `ask`, which is read where it is called."""
+def _asks(name: str, module: str = "ask") -> Callable[[argparse.Namespace], int]:
+    """A command of a module that is read where it is called."""
     def does(args: argparse.Namespace) -> int:
-        from agent.commands import ask
+        import importlib
 
-        return int(getattr(ask, name)(args))
+        return int(getattr(importlib.import_module(f"agent.commands.{module}"), name)(args))
 
     return does
 
@@ -184,12 +184,18 @@ def _asking_words(verbs: Any) -> None:
     log.add_argument("folder")
     get = _verb(verbs, "get", _asks("do_get"), "what a version holds, without a lease", "farm get locked:ccache@3 /tmp/third")
     get.add_argument("folder", metavar="FOLDER[@NUMBER]")
-    get.add_argument("to", type=path, metavar="DIR")
+    get.add_argument("to", type=path, metavar="DIR", help="a folder, or - for a tar on the standard output")
     withdraw = _verb(verbs, "withdraw", _asks("do_withdraw"), "ends a lease: its holder's commit won't count", "farm withdraw 17")
     withdraw.add_argument("ticket", type=ticket, metavar="T")
     retire = _verb(verbs, "retire", _asks("do_retire"), "ends a node for good", "farm retire 3")
     retire.add_argument("node", type=node, metavar="N")
     retire.add_argument("--gone", action="store_true", help="the node is gone for good: you vouch that all it ran is over")
+    put = _verb(verbs, "put", _asks("do_put", "care"), "makes a folder's next version what DIR holds", "farm put locked:ccache ~/.ccache")
+    put.add_argument("folder")
+    put.add_argument("source", type=path, metavar="DIR")
+    put.add_argument("--node", type=node, metavar="N")
+    put.add_argument("--wait", type=seconds, metavar="SECONDS")
+    _verb(verbs, "doctor", _asks("do_doctor", "care"), "says what of this machine and its farm isn't well, and how to mend it", "farm doctor")
     prune = _verb(verbs, "prune", _asks("do_prune"), "makes a folder's next version the empty one", "farm prune locked:ccache")
     prune.add_argument("folder")
     gc = _verb(verbs, "gc", _asks("do_gc"), "forgets what nothing needs, on this machine", "farm gc --keep 3")

@@ -123,11 +123,11 @@ def own_folder() -> str:
 
 
 def own_environment() -> dict[str, str]:
-    """What this was called with: where that has no locale of its own Python sets LC_CTYPE."""
+    """What this was called with, without the broker and its password: where that has no locale of its own Python sets LC_CTYPE."""
     front = b"LC_CTYPE="
     with open("/proc/self/environ", "rb") as file:
         given = [word.removeprefix(front) for word in file.read().split(b"\0") if word.startswith(front)]
-    others = {key: value for key, value in os.environ.items() if key != "LC_CTYPE"}
+    others = {key: value for key, value in os.environ.items() if key not in ("LC_CTYPE", "FARM_BROKER")}
     return others | {"LC_CTYPE": os.fsdecode(value) for value in given}
 
 

@@ -16,6 +16,7 @@ from agent.transport.hints import Hints
 from agent.filters.lines import Answer, Filter, FilterGone, Talk, line_of
 from agent.transport.needs import parts
 from agent.filters.node import HEARTBEAT, Setup
+from agent.filters.snapshots import Merges, Snapshots
 from agent.transport.local import COORDINATOR, address_of, node_address
 from agent.service.operators import FolderStatus, Lease, Status, Version, Waiting
 from agent.words import DIGEST, EMPTY, is_folder
@@ -42,6 +43,8 @@ class CoordinatorAgent:
         self.last: dict[str, tuple[int, tuple[Version, ...]]] = {}  # of a slot: its last number, and its last versions
         self.left: dict[int, tuple[int, set[int]]] = {}  # of a node: a life, and its asks for which nobody waits any more
         self.looked: dict[int, float] = {}  # of a node: when it was looked whether its leases live
+        self.snapshots = Snapshots(SILENT_LEAST)
+        self.merges = Merges(f"{setup.home}/merges")
         self.begun = time.monotonic()
         self.lock = threading.Lock()
         self.telling = threading.Lock()
@@ -150,6 +153,10 @@ class CoordinatorAgent:
             with contextlib.suppress(FarmFault):  # while the coordinator refuses, nobody is told
                 held = self.holders(node, folders)
                 self.setup.transport.send(node_address(node), self.hints.seal(f"held {node} {ask} {held}"))
+        if words[0] == "snapshots":
+            self.snapshots.hear(words[1:])
+        if words[0] == "merged":
+            self.merges.hear(words[1:])
         if words[0] == "last":
             self._tell_last(int(words[1]), words[2], words[3])
         if words[0] == "needs" and self.telling.acquire(blocking=False):  # one at a time: old questions come again too
@@ -216,7 +223,7 @@ class CoordinatorAgent:
             folders=tuple(self._folder(words, last) for words in of("last")), lives={words[0]: int(words[1]) for words in of("life")},
             gone=tuple(int(words[0]) for words in of("gone")), retired=tuple(words[0] for words in of("retired")),
             tickets=max((int(words[0]) for words in of("tickets")), default=0), heard={str(node): at for node, at in list(self.heard.items())},
-            now=time.time(),
+            now=time.time(), snapshots=self.snapshots.present(),
         )
 
     def _lease(self, words: list[str]) -> Lease:
@@ -255,7 +262,9 @@ class CoordinatorAgent:
 
     def versions(self, slot: str) -> list[Version]:
         facts = (fact.split(" ") for fact in self.question(line_of("line", slot)).facts)
-        return [Version(version=int(words[0]), ticket=int(words[1]), digest=words[2]) for words in facts]
+        return [
+            Version(version=int(words[0]), ticket=int(words[1]), digest=words[2], note=self.merges.said.get(int(words[1]), "")) for words in facts
+        ]
 
     def needed(self, keep: int) -> set[str]:
         """The digests of the last versions of each slot, and all that the filter says are needed."""

@@ -5,6 +5,7 @@ whole or not at all, and that no two processes of one talk run at once.
 """
 from __future__ import annotations
 
+import contextlib
 import fcntl
 import os
 import subprocess
@@ -15,6 +16,7 @@ from dataclasses import dataclass, field
 from typing import Callable, Sequence
 
 from agent.faults import FarmFault, LifeOver, Missing
+from agent.tools import LOOK
 
 LOCKED = 4  # the status of a filter whose files another process has
 MOST = 24 << 20  # bytes of a line with its end: a longer one would be dropped
@@ -137,6 +139,43 @@ class Filter:
         return " ".join(" ".join(self.said).split())[-300:]
 
 
+class Pauses:
+    """How long a filter that ends at once again and again, or can't start, waits before it is begun again: each time twice as long."""
+
+    FIRST, LONGEST = 1.0, 60.0  # seconds
+    WELL = 1.0  # seconds: one that lived so long is begun again at once
+
+    def __init__(self) -> None:
+        self.pause, self.until, self.why, self.has_ended = 0.0, 0.0, "it ended as soon as it had begun", False
+
+    def have_lived(self, seconds: float) -> None:
+        """A process ended after so many seconds."""
+        if seconds >= self.WELL:
+            self.pause, self.has_ended = 0.0, False
+        elif self.has_ended:
+            self._grow()
+        else:
+            self.has_ended = True
+
+    def have_failed(self, why: str) -> None:
+        """No process could be begun."""
+        self.why = why
+        self._grow()
+
+    def _grow(self) -> None:
+        self.pause = min(max(2 * self.pause, self.FIRST), self.LONGEST)
+        self.until = time.monotonic() + self.pause
+
+    def left(self) -> float:
+        """Seconds until the next one may begin."""
+        return max(0.0, self.until - time.monotonic())
+
+    def check(self, name: str) -> None:
+        """Refuses one that may not begin yet."""
+        if self.left():
+            raise FarmFault(f"{self.why}; the {name} is begun again in {self.left():.0f} s")
+
+
 class Talk:
     """A filter that is started again when it ends. Each process of it has an epoch, counted from 1."""
 
@@ -147,6 +186,7 @@ class Talk:
         self.birth = threading.RLock()
         self.present: tuple[int, Filter | None] = (0, None)
         self.stopped = False
+        self.pauses = Pauses()  # `birth` has it
 
     @property
     def epoch(self) -> int:
@@ -181,12 +221,12 @@ class Talk:
         """Begins the next process as soon as this one ends."""
         begun = time.monotonic()
         process.process.wait()
-        if time.monotonic() - begun < 1.0 and not self.stopped:
-            time.sleep(1.0)  # one that ends again and again isn't started all the time
-        try:
-            self.restart(epoch)
-        except FarmFault:
-            pass  # the next call tries again, and tells it
+        self.pauses.have_lived(time.monotonic() - begun)
+        while not self.stopped and self.epoch == epoch:
+            time.sleep(min(self.pauses.left(), LOOK))
+            if not self.pauses.left():
+                with contextlib.suppress(FarmFault):  # it is tried again after the next pause
+                    self.restart(epoch)
 
     def call(self, line: str, epoch: int | None = None) -> Answer:
         """An event. With an epoch it is of something of that process alone."""
@@ -216,7 +256,12 @@ class Talk:
             present, process = self.present
             if epoch == present and process and not self.stopped:
                 process.close()
-                self.start()
+                self.pauses.check(self.name)
+                try:
+                    self.start()
+                except FarmFault as fault:
+                    self.pauses.have_failed(str(fault))
+                    raise
 
     def stop(self) -> None:
         with self.birth:

@@ -165,6 +165,7 @@ class NodeAgent:
                     here = " ".join(map(str, ["here", self.node, *list(self.running)]))
                     self.setup.transport.send(COORDINATOR, self.hints.seal(here))
                     self._tell_left()
+                    self.merged.tell()
                 if line is not None:
                     self.receive(line)
             except LifeOver:

@@ -47,10 +47,11 @@ class Cut:
     end: int
 
 
-def cuts(layout: Layout, ends_of: Callable[[int], list[int]]) -> Iterator[Cut]:
-    """The chunks of a layout. Where those of a large file end `ends_of` says of its part."""
-    first, size, starts, listing = 0, 0, layout.starts, layout.listing
-    for number, (kind, path) in enumerate(layout.parts):
+def cuts(layout: Layout, ends_of: Callable[[int], list[int]], first: int = 0) -> Iterator[Cut]:
+    """The chunks of a layout from a part on at which one begins. Where those of a large file end `ends_of` says of its part."""
+    size, starts, listing = 0, layout.starts, layout.listing
+    for number in range(first, len(layout.parts)):
+        kind, path = layout.parts[number]
         length = starts[number + 1] - starts[number]
         if kind == "body" or kind == "end" and length >= TABLED:
             if size:
@@ -94,7 +95,7 @@ class _Making:
 
     def __init__(self, held: Held, old: Version, chunks: str, check: Callable[[], None]) -> None:
         self.held, self.old, self.chunks, self.check = held, old, chunks, check
-        self.layout = Layout(dict(held.entries))
+        self.layout = Layout(dict(held.entries), old.layout if old.names else None)
         self.fresh = sorted(self._fresh())
         self.old_begins = {begin: number for number, begin in enumerate([0, *old.ends[:-1]])} if old.names else {}
 
@@ -106,22 +107,27 @@ class _Making:
             old = before.get(path)
             if old is entry or old == entry:
                 continue
-            yield at["head"][path]
-            if path in at["body"] and (old is None or (old.kind, old.what, old.size) != (entry.kind, entry.what, entry.size)):
-                yield at["body"][path]
+            yield at["head", path]
+            if ("body", path) in at and (old is None or (old.kind, old.what, old.size) != (entry.kind, entry.what, entry.size)):
+                yield at["body", path]
             if old is None or old.kind != entry.kind or entry.kind == "f" and old.size != entry.size or entry.kind == "l":
                 resized.add(path)
         # A folder's table tells how far from it, and how long, each thing that it holds is.
-        yield from (at["end"][folder] for folder in _above(resized) & at["end"].keys())
-        yield from (at["end"][path] for path in resized & at["end"].keys())
+        yield from (at["end", folder] for folder in (_above(resized) | resized) & self.layout.inside.keys())
 
     def run(self) -> Version:
         rows, made = list[tuple[int, str | None]](), list[tuple[int, Cut]]()
-        for number, cut in enumerate(cuts(self.layout, self._ends_of)):
-            name = self._old_name(cut)
-            rows.append((self.layout.starts[cut.last] + cut.end, name))
-            if name is None:
-                made.append((number, cut))
+        at = 0
+        while at < len(self.layout.parts):
+            at = self._taken_over(at, rows)
+            for cut in cuts(self.layout, self._ends_of, at):
+                name = self._old_name(cut)
+                if name is None:
+                    made.append((len(rows), cut))
+                rows.append((self.layout.starts[cut.last] + cut.end, name))
+                at = cut.last + 1
+                if name is not None and rows[-1][0] == self.layout.starts[at]:
+                    break  # from here on the old chunks may be taken over
         with ThreadPoolExecutor(THREADS) as pool:
             rest = iter(made)
             while some := list(islice(rest, AT_ONCE)):
@@ -134,6 +140,34 @@ class _Making:
         head = struct.pack("<8Q", 48, INDEX, FLAGS, LEAST, USUAL, MOST, 2**64 - 1, TABLE)
         return Version(self.chunks, head + table + struct.pack("<5Q", 0, 0, 48, size, TAIL), self.layout.listing, self.layout)
 
+    def _taken_over(self, first: int, rows: list[tuple[int, str | None]]) -> int:
+        """Takes chunks of the old version over, as long as what they hold is as it was: the number of the part behind them."""
+        if not self.old.names:
+            return first
+        old, parts, starts = self.old.layout, self.layout.parts, self.layout.starts
+        was = old.at.get(parts[first])
+        number = self.old_begins.get(old.starts[was]) if was is not None else None
+        place = bisect_left(self.fresh, first)
+        end = self.fresh[place] if place < len(self.fresh) else len(parts)
+        if was is None or number is None or end <= first:
+            return first
+        end = self._same_until(first, end, was)
+        last = bisect_right(self.old.ends, old.starts[was + end - first - 1]) - 1  # the last one that ends before a part which is as it was
+        while last >= number and (behind := old.starts_at.get(self.old.ends[last])) is None:
+            last -= 1  # it ends amid a large file or table
+        if last < number:
+            return first
+        shift = starts[first] - old.starts[was]
+        rows += zip((at + shift for at in self.old.ends[number : last + 1]), self.old.names[number : last + 1])
+        return first + behind - was
+
+    def _same_until(self, first: int, end: int, was: int) -> int:
+        """Up to which part the old archive has the same ones in the same order: something that it has between them may be gone."""
+        parts, old = self.layout.parts, self.old.layout.parts
+        while parts[first:end] != old[was : was + end - first]:
+            end = first + (end - first) // 2
+        return end
+
     def _put(self, data: bytes) -> str:
         name = name_of(data)
         if not is_whole(self.chunks, name):
@@ -145,8 +179,7 @@ class _Making:
         if not self.old.names or bisect_left(self.fresh, cut.first) != bisect_right(self.fresh, cut.last):
             return None
         old, parts = self.old.layout, self.layout.parts
-        (kind, path), (last_kind, last_path) = parts[cut.first], parts[cut.last]
-        first, last = old.at[kind].get(path), old.at[last_kind].get(last_path)
+        first, last = old.at.get(parts[cut.first]), old.at.get(parts[cut.last])
         if first is None or last is None or last - first != cut.last - cut.first:
             return None
         number = self.old_begins.get(old.starts[first] + cut.begin)
@@ -158,7 +191,7 @@ class _Making:
         """Where the chunks of a large file end: of one that the old version has as that has it."""
         path = self.layout.parts[number][1]
         is_fresh = bisect_left(self.fresh, number) != bisect_right(self.fresh, number)
-        old = self.old.layout.at["body"].get(path) if self.old.names and not is_fresh else None
+        old = self.old.layout.at.get(("body", path)) if self.old.names and not is_fresh else None
         if old is not None:
             begin, end = self.old.layout.starts[old : old + 2]
             if begin in self.old_begins:

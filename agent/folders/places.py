@@ -9,6 +9,7 @@ import contextlib
 import errno
 import fcntl
 import hashlib
+import itertools
 import json
 import os
 import pathlib
@@ -417,7 +418,6 @@ def _is_reached_within(path: str, folder: str) -> bool:
 
 def check_apart(paths: list[str]) -> None:
     """No path is another one, or within it."""
-    for number, one in enumerate(paths):
-        for other in paths[:number] + paths[number + 1 :]:
-            if is_within(one, other):
-                raise UsageFault(f"{one} lies within {other}: folders of one command lie apart")
+    for other, one in itertools.pairwise(sorted(paths, key=path_order)):  # what is within a path comes right behind it
+        if is_within(one, other):
+            raise UsageFault(f"{one} lies within {other}: folders of one command lie apart")

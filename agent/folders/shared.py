@@ -24,6 +24,15 @@ if TYPE_CHECKING:
 MOST_DELAYED = 64
 
 
+@dataclass(frozen=True)
+class Closed:
+    """What came of leaving a folder."""
+
+    said: str
+    is_lost: bool = False
+    is_left: bool = False  # nobody waits any more for what comes of it
+
+
 class Home(Protocol):
     """Where a builder has the folders of leases, if that isn't a folder of the node's. `Builder` says what each of these does."""
 
@@ -50,6 +59,7 @@ class Tenure:
     home: Home | None = None
     mount: CacheMount | None = None  # its own there
     ended_well: bool = True  # each build that had it
+    end: Closed | None = None  # what came of it, once it is closed
 
     def has_home(self, home: Home | None) -> bool:
         """Whether who wants it there may enter it: any place will do to be bound."""
@@ -60,15 +70,6 @@ class Tenure:
         if not self.recalled and not self.closing and not self.has_home(home):
             return "commands have it here that aren't builds of this builder"
         return "it is being closed here" if self.closing else "another node wants it, so those who have it here end first"
-
-
-@dataclass(frozen=True)
-class Closed:
-    """What came of leaving a folder."""
-
-    said: str
-    is_lost: bool = False
-    is_left: bool = False  # nobody waits any more for what comes of it
 
 
 def left(folder: str) -> Closed:
@@ -175,15 +176,17 @@ class SharedFolders:
             agent.give_back(grant.ticket, epoch)
             raise
 
-    def leave(self, folder: str, tenure: Tenure, caller: Caller, ended_well: bool = True) -> Closed:
-        """Counts an execution out, once its own lease has ended. The last one closes the folder. What came of that. A caller may leave
-        meanwhile, and the folder is closed all the same: what others wrote there counts too."""
+    def leave(self, folder: str, tenure: Tenure, caller: Caller, waits: bool = False, ended_well: bool = True) -> Closed:
+        """Counts an execution out, once its own lease has ended. The last one closes the folder. What came of that; one that isn't the last
+        waits for it only where it is to. A caller may leave meanwhile, and the folder is closed all the same: what others wrote there
+        counts too."""
         with self.changed:
             tenure.users -= 1
             tenure.ended_well = tenure.ended_well and ended_well
-            if tenure.users or tenure.closing:
-                return Closed(f"{folder} is in use by others here, and is committed after them")
-            tenure.closing = True
+            is_last = not tenure.users and not tenure.closing
+            tenure.closing = tenure.closing or is_last
+        if not is_last:
+            return self._closed_by_others(folder, tenure, caller) if waits else Closed(f"{folder} is in use by others here, and is committed after them")
         patience, ends, late = Patience(caller, None), list[Closed](), time.monotonic() + LATE
         closing = threading.Thread(target=lambda: ends.append(self._close(folder, tenure, patience)), daemon=True)
         closing.start()
@@ -191,28 +194,40 @@ class SharedFolders:
             closing.join(LOOK)
         return ends[0] if ends else left(folder)
 
+    def _closed_by_others(self, folder: str, tenure: Tenure, caller: Caller) -> Closed:
+        """What came of a folder that others here still use, once they have ended."""
+        caller.say(f"waiting for {folder}: others use it here, and it is committed after them")
+        with self.changed:
+            while tenure.end is None and not caller.gone:
+                self.changed.wait(LOOK)
+            return tenure.end or left(folder)
+
     def _close(self, folder: str, tenure: Tenure, patience: Patience) -> Closed:
-        """Commits what the executions left, and gives the tenure up by that."""
-        counts = False
+        """Commits what the executions left, and gives the tenure up by that. What came of it is for those who wait too."""
+        end = left(folder)
         try:
-            closed = self._commit(folder, tenure, patience)
-            counts = not closed.is_lost
-            return closed
+            end = self._ended(folder, tenure, patience)
+            return end
+        finally:
+            if tenure.home and tenure.mount:
+                tenure.home.leave([tenure.mount], not end.is_lost and tenure.ended_well)
+            with self.changed:
+                tenure.end = end
+                if self.tenures.get(folder) is tenure:
+                    del self.tenures[folder]
+                self.asked.add(tenure.ticket)
+                self.delayed.pop(tenure.ticket, None)
+                self.changed.notify_all()
+
+    def _ended(self, folder: str, tenure: Tenure, patience: Patience) -> Closed:
+        try:
+            return self._commit(folder, tenure, patience)
         except ClientGone:
             return left(folder)
         except Exception as fault:  # the last version stands
             with contextlib.suppress(FarmFault, OSError):
                 self._given_up(tenure, f"abort {tenure.ticket}")
             return Closed(f"lost {folder}: {sentence(fault) if isinstance(fault, OSError) else fault}", is_lost=True)
-        finally:
-            if tenure.home and tenure.mount:
-                tenure.home.leave([tenure.mount], counts and tenure.ended_well)
-            with self.changed:
-                if self.tenures.get(folder) is tenure:
-                    del self.tenures[folder]
-                self.asked.add(tenure.ticket)
-                self.delayed.pop(tenure.ticket, None)
-                self.changed.notify_all()
 
     def _commit(self, folder: str, tenure: Tenure, patience: Patience) -> Closed:
         agent, slot = self.agent, tenure.slot

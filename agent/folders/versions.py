@@ -28,11 +28,14 @@ PIECE = 1 << 20  # bytes of a file that are read at once
 class Version:
     """A version: its index, and what its folder holds."""
 
-    def __init__(self, chunks: str, index: bytes, listing: Listing, layout: Layout | None = None) -> None:
+    def __init__(self, chunks: str, index: bytes, listing: Listing, layout: Layout | None = None, old: Version | None = None) -> None:
         self.chunks, self.index, self.listing = chunks, index, listing
         self._layout = layout
-        self.ends = [struct.unpack_from("<Q", index, at)[0] for at in table(index)]
-        self.names = [index[at + 8 : at + 40].hex() for at in table(index)]
+        self._old = old  # one that differs little, until the layout is made
+        rows = table(index)
+        pairs = list(struct.iter_unpack("<Q32s", index[rows.start : rows.start + 40 * len(rows)]))
+        self.ends: list[int] = [end for end, _ in pairs]
+        self.names = [name.hex() for _, name in pairs]
 
     @cached_property
     def digest(self) -> str:
@@ -40,7 +43,9 @@ class Version:
 
     @property
     def layout(self) -> Layout:
-        self._layout = self._layout or Layout(self.listing)
+        if self._layout is None:
+            self._layout = Layout(self.listing, self._old._layout if self._old else None)
+            self._old = None
         return self._layout
 
     def reader(self) -> Reader:
@@ -91,7 +96,7 @@ class _Reading:
     """The listing of an index, as it is read."""
 
     def __init__(self, chunks: str, index: bytes, old: Version, check: Callable[[], None]) -> None:
-        self.version = Version(chunks, index, {})
+        self.version = Version(chunks, index, {}, old=old)
         self.reader, self.old, self.check = self.version.reader(), old, check
         self.found = self.version.listing
         self.where = {name: number for number, name in enumerate(old.names)}

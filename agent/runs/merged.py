@@ -16,6 +16,7 @@ from typing import TYPE_CHECKING, Callable, Iterator
 
 from agent.faults import LOST, ClientGone, FarmFault, LifeOver, WaitOver
 from agent.filters.lines import line_of
+from agent.filters.snapshots import told_of
 from agent.folders import index, trees
 from agent.folders.held import Held
 from agent.folders.listing import edits
@@ -23,6 +24,7 @@ from agent.folders.merging import FAIL, is_database, merge
 from agent.folders.places import Places
 from agent.folders.versions import Version, none
 from agent.runs.caller import LATE, Caller, Patience
+from agent.service.operators import Snapshot
 from agent.store.packing import ChunkSpoilt
 from agent.tools import LOOK
 from agent.transport.local import COORDINATOR
@@ -56,6 +58,8 @@ class Own:
     conflicts: set[str] = field(default_factory=set)
     changed: int = 0  # paths that the command added or changed
     removed: int = 0
+    since: float = field(default_factory=time.time)
+    state: str = "running"
 
 
 @dataclass(frozen=True)
@@ -125,6 +129,8 @@ class MergedFolders:
         self.busy: set[str] = set()  # folders that commands have
         self.helds: dict[str, Held] = {}  # of a folder that nobody uses: what it holds
         self.waiting: dict[int, Own] = {}  # commits that are left to the agent
+        self.present: dict[str, Own] = {}  # of a folder: the command that has it
+        self.is_told = True  # that none is there
 
     # The last version, without a lease.
 
@@ -169,6 +175,14 @@ class MergedFolders:
             except LifeOver:
                 self._check_life()  # what was asked for isn't bound to a life: again
 
+    def tell(self) -> None:
+        """Tells the coordinator's agent which commands run without a lease."""
+        present = list(self.present.values())
+        if present or not self.is_told:
+            snapshots = [Snapshot(node=self.agent.node, slot=own.slot, version=own.number, since=own.since, state=own.state) for own in present]
+            self.agent.setup.transport.send(COORDINATOR, self.agent.hints.seal(told_of(self.agent.node, snapshots)))
+        self.is_told = not present
+
     # Folders.
 
     def enter(self, want: Want, patience: Patience, prepare: Callable[[str, bool], None]) -> Own:
@@ -197,6 +211,7 @@ class MergedFolders:
             if not version.listing:
                 prepare(held.path, True)
             held.settle()
+            self.present[held.path] = own
             return own
         except BaseException:
             self._free(held)
@@ -240,6 +255,7 @@ class MergedFolders:
 
     def leave(self, own: Own) -> None:
         """The command doesn't use its folder any more."""
+        self.present.pop(own.held.path, None)
         with contextlib.suppress(OSError):
             own.held.save()
         self._free(own.held)
@@ -269,6 +285,7 @@ class MergedFolders:
 
     def commit(self, own: Own, rule: str, patience: Patience) -> Counted:
         """Merges what a command left until it counts: no life of the node, and no lease that is lost, matters to it."""
+        own.state, own.since = "merging", time.time()
         own.held.look(Patience(patience.caller, None).check)
         found = self._edits(own)
         if not found:
@@ -300,9 +317,10 @@ class MergedFolders:
         if ask is None:
             raise FarmFault(f"{own.slot} can't be asked for")
         grant = agent.granted(ask, [own.slot], epoch, patience)
+        leased, is_late = time.monotonic(), grant.slots[0].base != own.number
         try:
             agent.begin(grant.ticket, epoch, patience)
-            if grant.slots[0].base != own.number:
+            if is_late:
                 with agent.store.making():
                     self._merge(own, grant.slots[0], rule, patience)
                     content = self._keep(own, patience)
@@ -315,9 +333,12 @@ class MergedFolders:
                 agent.give_back(grant.ticket, epoch)
             raise
         ending = agent.ending(ask, grant.ticket, epoch, patience.caller, patience)
+        agent.log(f"the lease {grant.ticket} of a merge was held for {time.monotonic() - leased:.2f} s{', and merged again under it' if is_late else ''}")
         if ending.how != "committed":
             return None
         number = next((number for number, _ in ending.versions.values()), grant.slots[0].base + 1)
+        note = f"merged {grant.ticket} {own.changed} {own.removed} {len(own.conflicts)} {rule}"
+        agent.setup.transport.send(COORDINATOR, agent.hints.seal(note))
         return Counted(own.slot, number, self._said(own, number, rule))
 
     def _said(self, own: Own, number: int, rule: str) -> str:

@@ -50,6 +50,7 @@ class Job:
     keeps_failed: bool = False  # whether what a failed command left is committed too
     fenced_status: int | None = None  # of a command that succeeded, and whose commit was fenced; none: its own
     lost_status: int | None = None
+    must_commit: bool = False  # whether it waits for the commit of SHARED folders that others use too
     of_shared: str = ""  # what is said where it waits for a SHARED folder
     filled: Callable[[Want, str, bool], None] = field(default=lambda want, path, is_new: None)
     left: Callable[[dict[str, str]], None] = field(default=lambda paths: None)  # where it left each folder, before that is kept
@@ -74,14 +75,14 @@ class Run:
         self.merged = sorted((want for want in job.wants if want.is_merged), key=lambda want: want.folder)
         self.owns: dict[str, Own] = {}  # the command's copies of merged folders
         self.counts = False  # whether what it left in the folders of its lease counts
+        if len(job.wants) > MOST_FOLDERS:
+            raise UsageFault(f"{len(job.wants)} folders: one lease has at most {MOST_FOLDERS}")
         self.command, self.env = job.command, job.env
         self.paths = {} if job.place else {want.folder: place_of(want.path, job.cwd) for want in job.wants}
         check_apart(list(self.paths.values()))
         lines = {want.folder.replace("merged:", "locked:", 1) if want.is_merged else want.folder for want in job.wants}
         if len(lines) < len(job.wants):
             raise UsageFault("a folder is named twice")
-        if len(job.wants) > MOST_FOLDERS:
-            raise UsageFault(f"{len(job.wants)} folders: one lease has at most {MOST_FOLDERS}")
 
     def run(self) -> int:
         if any(want.is_shared for want in self.job.wants) and not self.job.home and not self.agent.executions.has_namespaces:
@@ -177,7 +178,8 @@ class Run:
             status = None if ask is None else self._run_asked(ask, tenures)
         finally:
             for folder, tenure in tenures.items():
-                ends.append(self.agent.shared.leave(folder, tenure, self.caller, self.ended == 0 or not self.begun))
+                well = self.ended == 0 or not self.begun
+                ends.append(self.agent.shared.leave(folder, tenure, self.caller, waits=self.job.must_commit, ended_well=well))
                 self.caller.say(ends[-1].said)
         if status == 0 and any(closed.is_left for closed in ends):
             raise ClientGone("nobody waits for it any more")

@@ -53,11 +53,22 @@ class Waiting(NamedTuple):
     left: bool  # nobody waits for it any more
 
 
+class Snapshot(NamedTuple):
+    """A command that has no lease: it runs on a version, or waits until what it left is merged."""
+
+    node: int
+    slot: str
+    version: int
+    since: float  # time of day
+    state: str  # running, merging
+
+
 class Version(NamedTuple):
     version: int
     ticket: int
     digest: str
     size: int | None = None  # bytes of its files, where that is known
+    note: str = ""  # what its agent said of it
 
 
 class FolderStatus(NamedTuple):
@@ -78,6 +89,7 @@ class Status(NamedTuple):
     tickets: int
     heard: dict[str, float]  # of a node: the time of day at which it was heard
     now: float
+    snapshots: tuple[Snapshot, ...] = ()
 
 
 class Versions(NamedTuple):

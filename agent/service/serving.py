@@ -267,7 +267,7 @@ def run_of(agent: NodeAgent, wanted: Wanted, request: RunRequest, link: Connecti
     uncounted = LOST if request.must_commit else None
     job = Job(
         command=list(request.command), cwd=request.cwd, env=request.env, wants=[want_of(word) for word in request.folders],
-        wait=request.wait, stops_when_lost=request.stops_when_lost, fenced_status=uncounted, lost_status=uncounted, umask=request.umask,
+        wait=request.wait, stops_when_lost=request.stops_when_lost, fenced_status=uncounted, lost_status=uncounted, must_commit=request.must_commit, umask=request.umask,
         on_conflict=request.on_conflict, tells_conflicts=request.tells_conflicts,
     )
     run = Run(agent, job, link)

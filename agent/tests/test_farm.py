@@ -27,7 +27,7 @@ from agent.runs.run import Job, Run
 from agent.service.carried import written
 from agent.service.requests import RunRequest, StoreRequest
 from agent.service.sockets import Connection, Service, handled
-from agent.folders.shared import SharedFolders, Tenure
+from agent.folders.shared import Closed, SharedFolders, Tenure
 from agent.transport.local import COORDINATOR, LocalTransport
 from agent.words import EMPTY, Slot, Want
 
@@ -231,12 +231,31 @@ class Alone(support.FarmTest):
         self.assertFalse(os.path.exists(self.path("got")))
 
     def test_environment(self) -> None:
-        """A command has its caller's environment, and no locale that its caller hasn't."""
+        """A command has its caller's environment without the broker's password, and no locale that its caller hasn't."""
         env = {key: self.env[key] for key in ("PATH", "FARM_HOME", "FARMCTL")}
         rows: list[dict[str, str]] = [{}, {"LC_CTYPE": "POSIX"}, {"LANG": "C", "A": "x\ny=z"}]
         for given in rows:
-            done = subprocess.run([*FARM, "run", "--", "env", "-0"], env=env | given, cwd=self.room, capture_output=True, text=True, timeout=support.PATIENCE)
+            kept = {"FARM_BROKER": "redis://:secret@127.0.0.1"}
+            done = subprocess.run([*FARM, "run", "--", "env", "-0"], env=env | given | kept, cwd=self.room, capture_output=True, text=True, timeout=support.PATIENCE)
             self.assertEqual(sorted(done.stdout.split("\0")[:-1]), sorted(f"{key}={value}" for key, value in (env | given).items()))
+
+    def test_care(self) -> None:
+        """A folder is seeded from one of this machine, and a version leaves as a tar; the doctor says what is wrong, and its status does."""
+        for name in ("seed/a", "seed/sub/b", "other/c"):
+            self.write(name, name)
+        self.farm("put", "locked:p", "seed")
+        self.farm("put", "locked:p", "other")
+        for version, names in ((1, ["./", "./a", "./sub/", "./sub/b"]), (2, ["./", "./c"])):
+            done = subprocess.run([*FARM, "get", f"locked:p@{version}", "-"], env=self.env, cwd=self.room, capture_output=True, timeout=support.PATIENCE)
+            self.assertEqual(done.returncode, 0, done.stderr)
+            listed = subprocess.run(["tar", "-t"], input=done.stdout, capture_output=True, check=True).stdout.decode()
+            self.assertEqual(sorted(listed.split()), names)
+        self.assertIn("no folder", self.asked("put", "locked:p", self.path("nowhere"), status=64))
+        self.assertIn("name a locked or private one", self.asked("put", "shared:p", self.path("seed"), status=64))
+        self.assertIn("well: the farm's key", self.asked("doctor"))
+        os.chmod(f"{self.home}/key", 0o644)
+        self.assertIn(f"WRONG: the farm's key: others may read it: chmod 600 {self.home}/key", self.asked("doctor", status=70))
+        os.chmod(f"{self.home}/key", 0o600)
 
     def test_program_from_here(self) -> None:
         """The farm's program may be named from the folder in which a command is called. What follows a command's name is its own."""
@@ -621,6 +640,21 @@ class Tenures(unittest.TestCase):
         shared.tenures["shared:s"] = tenure
         self.assertEqual(shared.leave("shared:s", tenure, support.Heard()).said, "shared:s is given back as it was")
         self.assertEqual((lines, shared.tenures), (["abort 2"] * 3, {}))
+
+    def test_waits(self) -> None:
+        """Of two executions the first to leave waits for the commit only where it must commit, and is told what came of it then."""
+        for waits, said, is_lost in ((True, "lost shared:s: no", True), (False, "shared:s is in use by others here, and is committed after them", False)):
+            agent = mock.Mock(call=mock.Mock(side_effect=FarmFault("no")), wait=lambda epoch, patience, is_done: is_done())
+            shared, tenure = SharedFolders(agent), Tenure(1, 2, Slot("shared:s", True, 0, EMPTY), "/nowhere", 1, users=2)
+            ends = list[Closed]()
+            first = threading.Thread(target=lambda: ends.append(shared.leave("shared:s", tenure, support.Heard(), waits=waits)))
+            first.start()
+            support.until(lambda: tenure.users == 1)
+            first.join(0.3)
+            self.assertEqual(first.is_alive(), waits)
+            self.assertTrue(shared.leave("shared:s", tenure, support.Heard()).is_lost)
+            first.join(support.PATIENCE)
+            self.assertEqual((ends[0].said, ends[0].is_lost), (said, is_lost))
 
 
 class Services(support.RoomTest):

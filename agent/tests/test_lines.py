@@ -1,8 +1,11 @@
 """The talk with a filter, and with who asks an agent."""
 from __future__ import annotations
 
+import contextlib
+import os
 import socket
 import sys
+import tempfile
 import threading
 import time
 import unittest
@@ -10,7 +13,7 @@ from unittest import mock
 
 from agent import tools
 from agent.faults import FarmFault, LifeOver, Missing
-from agent.filters.lines import Answer, Filter, FilterGone, Talk, line_of
+from agent.filters.lines import Answer, Filter, FilterGone, Pauses, Talk, line_of
 from agent.service.carried import written
 from agent.service.requests import StoreRequest
 from agent.service.sockets import Connection, Service
@@ -28,6 +31,13 @@ for line in sys.stdin:
     print(f"m to {line}\\n: fact {len(line)}\\n= did {line}"); sys.stdout.flush()
 """
 COMMAND = [sys.executable, "-c", ECHO]
+
+
+def is_answered(talk: Talk) -> bool:
+    try:
+        return talk.call("x").note == "did x"
+    except FarmFault:
+        return False
 
 
 def program(text: str) -> list[str]:
@@ -115,6 +125,35 @@ class Lines(unittest.TestCase):
         with self.assertRaises(LifeOver):
             talk.call("x")
         self.assertEqual(talk.call("x").note, "did x")
+
+    def test_pauses(self) -> None:
+        """A filter that can't start any more isn't begun all the time, whoever calls it, and it is told why and when it will be."""
+        with tempfile.TemporaryDirectory() as room:
+            text = (
+                "import os, sys\n"
+                f"open({room!r} + '/starts', 'a').write('x')\n"
+                f"if os.path.exists({room!r} + '/ill'): sys.stderr.write('fault File\\n'); sys.exit(5)\n{ECHO}"
+            )
+            talk = Talk("node 1", program(text), lambda: None, lambda answer: None)
+            talk.start()
+            self.addCleanup(talk.stop)
+            time.sleep(Pauses.WELL)
+            open(f"{room}/ill", "w").close()
+            said, end = set[str](), time.monotonic() + 2.5
+            with contextlib.suppress(LifeOver, FarmFault):
+                talk.call("die")
+            while time.monotonic() < end:
+                with contextlib.suppress(LifeOver):
+                    try:
+                        talk.call("x")
+                    except FarmFault as fault:
+                        said.add(str(fault))
+                time.sleep(0.01)
+            with open(f"{room}/starts") as file:
+                self.assertLessEqual(len(file.read()), 5)
+            self.assertTrue(any("fault File; the node 1 is begun again in" in text for text in said), said)
+            os.unlink(f"{room}/ill")
+            support.until(lambda: not talk.pauses.left() and is_answered(talk))
 
     def start_of(self, command: list[str]) -> str:
         with self.assertRaises(FarmFault) as raised:

@@ -3,6 +3,7 @@ from __future__ import annotations
 
 import os
 import random
+import re
 import shutil
 import signal
 import sqlite3
@@ -242,6 +243,7 @@ class MergedFolders(support.FarmTest):
                                   "--node", str(n % 2 + 1)) for n in range(4)]
         for n in range(4):
             self.wait_for(self.path(f"begun{n}"))
+        support.until(lambda: self.asked("status").count("runs a command on locked:c version 1 for ") == 4)
         for n in range(4):
             self.write(f"go{n}", "")
         said = [self.ended(run) for run in runs]
@@ -249,6 +251,7 @@ class MergedFolders(support.FarmTest):
         self.assertEqual([self.read(f"saw{n}").split() for n in range(4)], [[f"f{n}", *["gone"] * (n != 1), "old"] for n in range(4)])
         self.assertIn("f0\nf1\nf2\nf3\nold\n", self.merged("ls"))
         self.assertIn("changed nothing", self.merged("ls; touch ."))
+        support.until(lambda: len(re.findall(r" merged 1 path\n| merged 1 path, removed 1\n", self.asked("log", "locked:c"))) == 4)
         self.assertEqual(len(self.asked("log", "locked:c").splitlines()), 5)
         self.assertIn("nothing of it is kept", self.merged("touch bad; exit 7", status=7))
         self.assertIn("Read-only", self.merged("touch bad; ls", use="ro=merged"))

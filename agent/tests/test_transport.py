@@ -178,7 +178,7 @@ class OverRedis(Carries):
         module = "agent.store.redis"
         with (
             mock.patch(f"{module}.time.monotonic", lambda: now[0]), mock.patch(f"{module}.time.sleep"), mock.patch(f"{module}.AT_ONCE", 1),
-            mock.patch(f"{module}.chunk_names", lambda index: list("01234567")),
+            mock.patch(f"{module}.new_names", lambda index, base: list("01234567")),
         ):
             faults[6] = 1
             store._send("8", b"", away.append)

@@ -6,7 +6,9 @@ import http.client
 import io
 import json
 import os
+import shutil
 import socket
+import subprocess
 import threading
 import time
 import unittest
@@ -14,8 +16,10 @@ import urllib.error
 import urllib.request
 from typing import Any
 
-from agent.web import web
 from agent.faults import FarmFault
+from agent.service.carried import made
+from agent.service.operators import Status
+from agent.web import web
 
 from agent.tests import support
 from agent.tests.browser import Browser
@@ -27,13 +31,18 @@ def told(nodes: int, leases: int, folder: str = "locked:c") -> dict[str, Any]:
     """A status as a coordinator tells it."""
     now = time.time()
     return {
-        "now": now, "gone": [2], "retired": [], "lives": {str(n): 1_700_000_000 + n for n in range(1, nodes + 1)},
+        "now": now, "gone": [2], "retired": [], "tickets": 9, "lives": {str(n): 1_700_000_000 + n for n in range(1, nodes + 1)},
         "heard": {str(n): now - n for n in range(1, nodes + 1)},
         "leases": [{"ticket": t, "node": t % nodes + 1, "life": 1, "ask": t, "kind": "plain", "slots": [f"{folder}{t}"], "since": now - t} for t in range(1, leases + 1)],
+        "snapshots": [{"node": 2, "slot": "locked:c", "version": 4, "since": 1.0, "state": "merging"}],
         "waiting": [{"kind": "acquire", "node": 1, "life": 1, "ask": 5, "folders": [folder], "left": True}],
         "folders": [{"slot": f"{folder}{t}", "version": 3, "ticket": t, "digest": "0" * 64, "versions": [
             {"version": v, "ticket": v, "digest": "0" * 64, "size": 1234 ** v} for v in (3, 2, 1)]} for t in range(1, leases + 1)],
     }
+
+
+def missing() -> Status:
+    raise KeyError("what")
 
 
 def has_ipv6() -> bool:
@@ -48,10 +57,11 @@ class Served(support.RoomTest):
     """A page whose farm is a value."""
 
     def serve(self, status: Any, address: str = "127.0.0.1") -> int:
-        def read() -> Any:
+        def read() -> Status:
             if isinstance(status, str):
                 raise FarmFault(status)
-            return status
+            value: Status = made(Status, status)
+            return value
 
         server = web.Server(address, 0, read)
         thread = threading.Thread(target=server.serve_forever, args=(0.05,))
@@ -85,9 +95,21 @@ class Answers(Served):
         self.assertEqual(self.get(port, "/", Host=f"localhost:{port}")[0], 200)
         self.assertEqual(self.get(self.serve("no farm answers"), "/status.json")[:2], (503, b"no farm answers"))
 
+    def test_metrics(self) -> None:
+        """Prometheus's own reader, where promtool is there, finds nothing wrong with the text; and it says what the status does."""
+        status, data, _ = self.get(self.serve(told(2, 2, 'locked:a"b\\')), "/metrics")
+        lines = data.decode().splitlines()
+        self.assertEqual(status, 200)
+        for wanted in ('farm_leases{kind="plain"} 2', 'farm_leases{kind="tenure"} 0', "farm_asks_waiting 1", "farm_tickets_total 9", "farm_nodes_retired 1",
+                       'farm_folder_versions_total{slot="locked:a\\"b\\\\1"} 3', "# TYPE farm_tickets_total counter", 'farm_snapshots{state="merging"} 1'):
+            self.assertIn(wanted, lines)
+        if promtool := shutil.which("promtool"):
+            done = subprocess.run([promtool, "check", "metrics"], input=data, capture_output=True)
+            self.assertEqual((done.returncode, done.stdout + done.stderr), (0, b""))
+
     def test_gone(self) -> None:
         """Who asks and is gone before the answer is nobody's fault."""
-        server = web.Server("127.0.0.1", 0, lambda: told(1, 1)["what"])
+        server = web.Server("127.0.0.1", 0, missing)
         self.addCleanup(server.server_close)
         host = f"Host: 127.0.0.1:{server.server_port}\r\n\r\n".encode()
         for asked, said in ((b"GET / HTTP/1.1\r\n" + host, ""), (b"GET / HT", ""), (b"GET /status.json HTTP/1.1\r\n" + host, "KeyError: 'what'")):

@@ -34,6 +34,9 @@ class Words(unittest.TestCase):
         for word in ("locked:a", "locked:a b=/x", "a=/x", "=", "locked:a=", "=/x"):
             with self.assertRaises(UsageFault, msg=word):
                 want_of(word)
+        for word, hint in (("locked:c=~/w", "replaced the ~"), ("locked:" + "a" * 4090 + "=/x", "at most 4096")):
+            with self.assertRaisesRegex(UsageFault, hint):
+                want_of(word)
         for word, hint in (("locked:a b=/x", "locked:a%20b"), ("locked:\udcff=/x", "locked:%FF")):
             with self.assertRaisesRegex(UsageFault, hint):
                 want_of(word)

@@ -125,7 +125,8 @@ def check_lines(home: str, out: str, wanted: list[list[str]]) -> None:
 def suites(room: str) -> str:
     """The agent's tests of whole farms, over the program."""
     need_tools("casync")
-    suite = unittest.defaultTestLoader.loadTestsFromNames(["agent.tests.test_farm", "agent.tests.test_builds", "agent.tests.test_docker"])
+    names = ["agent.tests.test_farm", "agent.tests.test_builds", "agent.tests.test_docker", "agent.tests.test_merged"]
+    suite = unittest.defaultTestLoader.loadTestsFromNames(names)
     with open(f"{room}/tests", "w+") as said:
         result = unittest.TextTestRunner(stream=said).run(suite)
         said.seek(0)
@@ -224,7 +225,32 @@ def stale_agent(room: str) -> str:
     return found(room, "--over", "pipes", "--wrong", "stale")
 
 
-TRIALS: list[Callable[[str], str]] = [starts, kills, main_job, suites, count, docker_builds, kept_ids, over_pipes, over_redis, early_agent, stale_agent]
+def merged_folders(room: str) -> str:
+    """Commands on snapshots of one folder, merged."""
+    need_tools("casync", "redis-server")
+    need_namespaces()
+    return tried("merged", "--over", "redis", "--seconds", "30", last=2)
+
+
+def snapshot_agent(room: str) -> str:
+    """An agent merges into the version that a command began from, and not into the leased one."""
+    need_tools("casync")
+    need_namespaces()
+    try:
+        said = tried("merged", "--over", "pipes", "--seconds", "8", "--wrong", "snapshot")
+    except Wrong as fault:
+        return "found, " + [line for line in str(fault).splitlines() if line.startswith("wrong: ")][-1]
+    raise Failed(said)
+
+
+def need_namespaces() -> None:
+    if os.geteuid() or not can_have_namespaces():
+        raise Skipped("merged folders want root and namespaces")
+
+
+TRIALS: list[Callable[[str], str]] = [
+    starts, kills, main_job, suites, count, docker_builds, kept_ids, over_pipes, over_redis, early_agent, stale_agent, merged_folders, snapshot_agent,
+]
 
 
 def attempt(trial: Callable[[str], str]) -> str:

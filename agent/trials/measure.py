@@ -2,28 +2,31 @@
 """Measures the agent on this machine, in one run: what `farm run` costs beside the command, a folder of a gigabyte, one of two in many
 files, and a source package built on three nodes with ccache in a leased folder, beside other places for it.
 
-usage: agent/trials/measure.py [start] [folder] [many] [package SOURCE.tar.gz [MAKE WORDS..]]
+usage: agent/trials/measure.py [start] [folder] [many] [modes] [burst] [package SOURCE.tar.gz [MAKE WORDS..]]
 """
 from __future__ import annotations
 
 import contextlib
 import os
 import re
+import shlex
+import shutil
 import statistics
 import subprocess
 import sys
 import tempfile
 import threading
 import time
+from concurrent.futures import ThreadPoolExecutor
 from pathlib import Path
-from typing import Callable
+from typing import Callable, Iterator
 
 sys.dont_write_bytecode = True
 sys.path.insert(0, str(Path(__file__).resolve().parents[2]))
 
 from agent.tests.support import redis_server  # noqa: E402
 from agent.tools import TOP, farm_program  # noqa: E402
-from agent.trials.farms import children  # noqa: E402
+from agent.trials.farms import PYTHON_FARM, OverRedis, children  # noqa: E402
 from agent.trials.gate import farm_up  # noqa: E402
 
 FARM = f"{TOP}/farm"
@@ -172,11 +175,97 @@ def package(room: str, source: str, words: list[str]) -> None:
         row("farm, locked: node 1 cold, nodes 2, 3 and 1 warm", *(built.build(on(node), f"{cache}{node}") for node in (1, 2, 3, 1)))
 
 
+class Apart(OverRedis):
+    """A coordinator and nodes over Redis, each an agent of its own, undisturbed."""
+
+    def __init__(self, room: str, nodes: int) -> None:
+        super().__init__(room, nodes, 0, None)
+
+    def command(self, name: str) -> list[str]:
+        return [*PYTHON_FARM, *self.words(name), "--verbose"]
+
+    def run(self, node: int, folder: str, *command: str) -> list[str]:
+        return [FARM, "run", "--home", self.home(node), "--folder", folder, "--", *command]
+
+    def held(self) -> list[float]:
+        """For how many seconds each merge had a lease."""
+        logs = [Path(f"{self.room}/node{node}.log").read_text() for node in range(1, self.nodes + 1)]
+        return [float(found) for log in logs for found in re.findall(r"of a merge was held for ([0-9.]+) s", log)]
+
+
+@contextlib.contextmanager
+def apart(room: str, nodes: int) -> Iterator[Apart]:
+    farm = Apart(f"{room}/farm", nodes)
+    try:
+        farm.begin()
+        yield farm
+    finally:
+        farm.end()
+        shutil.rmtree(farm.room)
+
+
+def at_once(words: list[list[str]]) -> float:
+    """The seconds in which all of these commands end that begin at once."""
+    begun = time.perf_counter()
+    with ThreadPoolExecutor(len(words)) as pool:
+        list(pool.map(seconds, words))
+    return time.perf_counter() - begun
+
+
+def spread(times: list[float]) -> str:
+    times = sorted(times)
+    return f"{times[0]:.2f} to {times[-1]:.2f} s, half of them up to {statistics.median(times):.2f}" if times else "none"
+
+
+def modes(room: str) -> None:
+    """Four commands of five seconds on four nodes at once, and of one node at one path."""
+    with apart(room, 4) as farm:
+        def command(mode: str, node: int, name: str) -> list[str]:
+            path = f"{room}/{mode}{name}"
+            return farm.run(node, f"{mode}:{mode}={path}", "sh", "-c", f"sleep 5; echo x > {path}/{node}{name}")
+
+        for mode in ("locked", "shared", "private", "merged"):
+            row(f"4 commands of 5 s on 4 nodes, {mode}", f"{at_once([command(mode, node, str(node)) for node in range(1, 5)]):.1f} s")
+        row("4 commands of 5 s on one node, at one path, merged", f"{at_once([command('merged', 1, 'same') for _ in range(4)]):.1f} s")
+        small = [farm.run(node, f"merged:small={room}/small{node}", "sh", "-c", f"echo x > {room}/small{node}/$$") for node in range(1, 5)]
+        before = len(farm.held())
+        took = at_once([["sh", "-c", f"for k in 1 2 3 4 5 6; do {shlex.join(words)} 2>/dev/null || exit 1; done"] for words in small])
+        row("24 small commands on 4 nodes, merged: a second", f"{24 / took:.1f}", f"leases {spread(farm.held()[before:])}")
+
+
+WRITE = """import os, random, sys
+top, number, seed = sys.argv[1], int(sys.argv[2]), int(sys.argv[3])
+dice = random.Random(seed)
+for k in range(50_000) if number == 50_000 else dice.sample(range(50_000), number):
+    os.makedirs(f"{top}/{k % 250}", exist_ok=True)
+    open(f"{top}/{k % 250}/{k}", "wb").write(dice.randbytes(int(sys.argv[4])))
+"""
+
+
+def burst(room: str, size: int = 8_000) -> None:
+    """50,000 files, of which four nodes change 100 each at once."""
+    with apart(room, 4) as farm:
+        def command(node: int, number: int, seed: int) -> list[str]:
+            path = f"{room}/burst{node}"
+            return farm.run(node, f"merged:burst={path}", sys.executable, "-c", WRITE, path, str(number), str(seed), str(size))
+
+        row(f"{50_000 * size / 1e6:,.0f} MB in 50,000 files: written, and merged", f"{seconds(command(1, 50_000, 0)):.1f} s")
+        row("the same on 4 nodes, 1 file changed", f"{at_once([command(node, 1, node) for node in range(1, 5)]):.1f} s")
+        for turn in range(2):
+            before = len(farm.held())
+            took = at_once([command(node, 100, 10 * turn + node) for node in range(1, 5)])
+            held = farm.held()[before:]
+            row("100 files changed on each of 4 nodes at once", f"{took:.1f} s", f"leases {spread(held)}")
+        pids = {name: process.pid for name, process in farm.agents.items()}
+        most = {name: int(re.findall(r"VmHWM:\s+(\d+)", Path(f"/proc/{pid}/status").read_text())[0]) / 1024 for name, pid in pids.items()}
+        row("greatest memory of an agent", f"{max(most.values()):.0f} MB")
+
+
 def main() -> int:
     words = sys.argv[1:]
     source = words[words.index("package") + 1 :] if "package" in words else []
     print(f"load {os.getloadavg()[0]:.1f}, {os.cpu_count()} processors", flush=True)
-    jobs: dict[str, Callable[[str], None]] = {"start": start, "folder": folder, "many": many, "package": lambda room: package(room, os.path.abspath(source[0]), source[1:])}
+    jobs: dict[str, Callable[[str], None]] = {"start": start, "folder": folder, "many": many, "modes": modes, "burst": burst, "package": lambda room: package(room, os.path.abspath(source[0]), source[1:])}
     for name, job in jobs.items():
         if name in words[: len(words) - len(source)]:
             with tempfile.TemporaryDirectory(prefix="farm-") as room:

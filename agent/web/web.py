@@ -1,6 +1,6 @@
 """A page with the farm's status, to be read in a browser.
 
-Owes the filters that nothing can be asked of the farm through it: it answers two requests, and both only read.
+Owes the filters that nothing can be asked of the farm through it: it answers three requests, and all only read.
 """
 from __future__ import annotations
 
@@ -19,6 +19,9 @@ import threading
 from typing import Any, Callable
 
 from agent.faults import FarmFault, show
+from agent.service.carried import plain
+from agent.service.operators import Status
+from agent.web import metrics
 
 PAGE = os.path.join(os.path.dirname(os.path.abspath(__file__)), "page.html")
 
@@ -44,7 +47,7 @@ def is_loopback(address: str) -> bool:
 class Server(http.server.ThreadingHTTPServer):
     daemon_threads = True
 
-    def __init__(self, address: str, port: int, read: Callable[[], Any]) -> None:
+    def __init__(self, address: str, port: int, read: Callable[[], Status]) -> None:
         self.read = read
         with open(PAGE, encoding="utf-8") as file:
             self.page = file.read()
@@ -85,12 +88,17 @@ class Answer(http.server.BaseHTTPRequestHandler):
         elif self.path == "/":
             self._answer(200, "text/html; charset=utf-8", self.server.page.encode())
         elif self.path == "/status.json":
-            try:
-                self._answer(200, "application/json", json.dumps(self.server.read()).encode())
-            except FarmFault as fault:
-                self._answer(503, "text/plain; charset=utf-8", str(fault).encode())
+            self._tell("application/json", lambda told: json.dumps(plain(told)))
+        elif self.path == "/metrics":
+            self._tell(metrics.KIND, metrics.text)
         else:
-            self._answer(404, "text/plain", b"there is / and /status.json")
+            self._answer(404, "text/plain", b"there is /, /status.json and /metrics")
+
+    def _tell(self, kind: str, spelled: Callable[[Status], str]) -> None:
+        try:
+            self._answer(200, kind, spelled(self.server.read()).encode())
+        except FarmFault as fault:
+            self._answer(503, "text/plain; charset=utf-8", str(fault).encode())
 
     def _answer(self, status: int, kind: str, body: bytes) -> None:
         self.send_response(status)
@@ -106,7 +114,7 @@ class Answer(http.server.BaseHTTPRequestHandler):
         pass
 
 
-def serve(address: str, port: int, read: Callable[[], Any]) -> int:
+def serve(address: str, port: int, read: Callable[[], Status]) -> int:
     """Serves until it is told to end."""
     try:
         server = Server(address, port, read)

@@ -1,0 +1,130 @@
+"""Commands that look after a farm: a folder is seeded, this machine is looked at.
+
+Owes the filters nothing: a folder is seeded under a lease as any command's.
+"""
+from __future__ import annotations
+
+import argparse
+import os
+import shutil
+import tempfile
+import time
+from typing import Callable, Iterator, NamedTuple
+
+from agent.commands.run import ask_node, node_sockets, own_environment, own_folder, own_umask
+from agent.faults import FAULT, FarmFault, UsageFault, show
+from agent.service import client
+from agent.service.operators import Status, StatusRequest
+from agent.service.requests import RunRequest, StorePlace, StoreRequest
+
+REPLACE = 'find "$2" -mindepth 1 -delete && cp -a -- "$1/." "$2"'
+LOW = 0.1  # of a disk: less free room is told
+SILENT = 30.0  # seconds for which a node that is well is heard
+
+
+def do_put(args: argparse.Namespace) -> int:
+    """Makes a folder's next version what a folder of this machine holds."""
+    source = os.path.realpath(args.source)
+    if not os.path.isdir(source):
+        raise UsageFault(f"{args.source} is no folder")
+    if args.folder.startswith("shared:"):
+        raise UsageFault("a SHARED folder is written by several at once: name a locked or private one")
+    room = tempfile.mkdtemp(prefix="farm-put-")
+    try:
+        return ask_node(args.home, args.node, RunRequest(
+            command=("sh", "-c", REPLACE, "put", source, f"{room}/folder"), folders=(f"{args.folder}={room}/folder",), cwd=own_folder(),
+            env=own_environment(), umask=own_umask(), wait=args.wait, must_commit=True,
+        ))
+    finally:
+        shutil.rmtree(room, ignore_errors=True)
+
+
+class Finding(NamedTuple):
+    """What was looked at; why it isn't well, and how that is mended, where it isn't."""
+
+    what: str
+    trouble: str = ""
+    is_warning: bool = False
+
+    def __str__(self) -> str:
+        how = "well" if not self.trouble else "warning" if self.is_warning else "WRONG"
+        return f"{how}: {self.what}{': ' if self.trouble else ''}{self.trouble}"
+
+
+def do_doctor(args: argparse.Namespace) -> int:
+    """Says what of this machine and its farm isn't well, and how to mend it. The status is 70 where something is wrong."""
+    findings = [finding for look in LOOKS for finding in look(args.home)]
+    for finding in findings:
+        show(str(finding))
+    wrong = sum(bool(finding.trouble) and not finding.is_warning for finding in findings)
+    return FAULT if wrong else 0
+
+
+def _look_at_tools(home: str) -> Iterator[Finding]:
+    from agent.tools import farm_choice
+
+    for tool, package, use, is_needed in (
+        ("casync", "casync", "folders are kept by it", True), ("buildah", "buildah", "farm build needs it", False),
+        ("redis-server", "redis-server", "a farm of several machines needs one somewhere", False),
+    ):
+        yield Finding(tool, "" if shutil.which(tool) else f"{use}: apt-get install {package}", is_warning=not is_needed)
+    try:
+        found = farm_choice()
+        yield Finding(f"the program that decides, {found.what}, {found.path}")
+    except FarmFault as fault:
+        yield Finding("the program that decides", str(fault))
+
+
+def _look_at_kernel(home: str) -> Iterator[Finding]:
+    from agent.runs.executions import can_have_namespaces
+
+    yield Finding("pid and mount namespaces", "" if can_have_namespaces() else "commands can outlive their agent, and no SHARED folder can be used: run it as root", is_warning=True)
+
+
+def _look_at_home(home: str) -> Iterator[Finding]:
+    if not os.path.isdir(home):
+        yield Finding(f"the home {home}", "there is none yet: farm up, node or run makes it", is_warning=True)
+        return
+    disk = shutil.disk_usage(home)
+    free = f"{disk.free / 1e9:.1f} GB of {disk.total / 1e9:.1f} GB are free"
+    yield Finding(f"room for {home}: {free}", "make room, as farm gc does" if disk.free < LOW * disk.total else "", is_warning=True)
+    status = os.stat(home)
+    yield Finding(f"who may enter {home}", f"others may: chmod o-rwx {home}" if status.st_mode & 0o007 else "")
+    key = f"{home}/key"
+    if not os.path.exists(key):
+        yield Finding("the farm's key", f"{key} is missing: copy it from the coordinator's machine", is_warning=not os.path.exists(f"{home}/joined"))
+    else:
+        yield Finding("the farm's key", f"others may read it: chmod 600 {key}" if os.stat(key).st_mode & 0o077 else "")
+
+
+def _look_at_farm(home: str) -> Iterator[Finding]:
+    nodes = list(node_sockets(home)) if os.path.isdir(home) else []
+    path = f"{home}/coordinator.sock"
+    if client.is_there(path):
+        told = client.told_at(path, StatusRequest(), Status, shows=False)
+        yield Finding(f"the coordinator: ticket {told.tickets}, {len(told.leases)} leases, {len(told.waiting)} asks wait")
+        for number, at in sorted(told.heard.items(), key=lambda each: int(each[0])):
+            silent = time.time() - at
+            trouble = f"it wasn't heard for {silent:.0f} s: if it is gone for good, farm retire {number} --gone" if silent > SILENT else ""
+            yield Finding(f"node {number}", trouble, is_warning=True)
+    elif nodes:
+        yield Finding("the coordinator", "it runs on another machine", is_warning=not os.path.exists(f"{home}/joined"))
+    else:
+        yield Finding("a farm", f"none runs in {home}: farm run starts one, and farm up one that lasts", is_warning=True)
+    for place in {client.told_at(each, StoreRequest(), StorePlace, shows=False) for each in (nodes or [path]) if client.is_there(each)}:
+        yield _store(home, place)
+
+
+def _store(home: str, place: StorePlace) -> Finding:
+    """Whether contents can be reached."""
+    from agent.commands.ask import store_at
+
+    what = f"the store {place.contents or 'over Redis' if place.broker else place.contents or f'{home}/contents'}"
+    try:
+        store_at(home, place).index("0" * 64)
+        return Finding(what)
+    except (FarmFault, OSError) as fault:
+        return Finding(what, str(fault))
+
+
+LOOKS: tuple[Callable[[str], Iterator[Finding]], ...] = (_look_at_tools, _look_at_kernel, _look_at_home, _look_at_farm)
