@@ -33,7 +33,9 @@ def read(made: Plan) -> str:
 
 # A Dockerfile, and the ids that its lease wants, where BuildKit reads it otherwise than buildah.
 KIT: dict[str, tuple[str, list[str]]] = {
-    "the last of ENV and ARG": (f"FROM box\nENV V=env\nARG V=arg\nRUN {T},id=$V,target=/a true\nENV V=new\nRUN {T},id=$V,target=/a true\n", ["arg", "new"]),
+    "the last of ENV and ARG": (
+        f"FROM box\nENV V=env\nARG V=arg\nRUN {T},id=$V,target=/a true\nENV V=new\nRUN {T},id=$V,target=/a true\n", ["arg", "new"],
+    ),
     "ARG of a stage before": (f"FROM box AS one\nARG I=up J=arg\nENV J=env\nFROM one\nRUN {T},id=$I$J,target=/a true\n", ["upenv"]),
     "a later stage": (f"FROM box AS a\nFROM box AS last\nCOPY --from=late /x /x\nFROM box AS late\nRUN {T},id=l,target=/a true\nFROM last\n", ["l"]),
     "escape after syntax": (f"# syntax=docker/dockerfile:1\n# escape=`\nFROM box\nRUN {T},id=e,`\ntarget=/a true\n", ["e"]),
@@ -105,7 +107,7 @@ class Ids(support.RoomTest):
 
     def test_ids(self) -> None:
         ids = CacheIds(self.path("mounts"))
-        seen = set()
+        seen: set[str] = set()
         for ended_well in (True, True, False, True, None, True):
             taken = ids.take(["locked:a", "locked:b"])
             ids.found(CacheMount("locked:a", taken["locked:a"], f"/d/{len(seen)}"))
@@ -142,15 +144,17 @@ class Refusing(support.FarmTest):
     def test_check(self) -> None:
         builder = self.docker("unix:///x.sock")
         with mock.patch("os.geteuid", return_value=0), mock.patch.object(builder, "_check_daemon"):
-            rows = [("# syntax=x/y\nFROM box\n", {}, "line 1: syntax=x/y"), ("\ufeff#  Syntax = docker/dockerfile:2\n", {}, "docker/dockerfile:2"),
-                    ("FROM box\n", {"BUILDKIT_CACHE_MOUNT_NS": "x"}, "BUILDKIT_CACHE_MOUNT_NS isn't carried out"),
-                    ("FROM box\n", {"BUILDKIT_SYNTAX": "x"}, "BUILDKIT_SYNTAX"), ("# x\n//syntax=docker/dockerfile-upstream:1\n", {}, "line 2")]
+            rows: list[tuple[str, dict[str, str], str]] = [
+                ("# syntax=x/y\nFROM box\n", {}, "line 1: syntax=x/y"), ("\ufeff#  Syntax = docker/dockerfile:2\n", {}, "docker/dockerfile:2"),
+                ("FROM box\n", {"BUILDKIT_CACHE_MOUNT_NS": "x"}, "BUILDKIT_CACHE_MOUNT_NS isn't carried out"),
+                ("FROM box\n", {"BUILDKIT_SYNTAX": "x"}, "BUILDKIT_SYNTAX"), ("# x\n//syntax=docker/dockerfile-upstream:1\n", {}, "line 2"),
+            ]
             for text, args, why in rows:
                 with self.subTest(text), self.assertRaisesRegex(BadDockerfile, why):
                     builder.check(text, args, BuildOptions())
             for text in ("FROM box\n# syntax=x\n", "# syntax=docker/dockerfile:1.4\nFROM box\n", "# syntax=docker/dockerfile:1-labs\n", "#x\n"):
                 self.assertEqual(builder.check(text, {}, BuildOptions()), Reader(True, "syntax=docker" in text), text)
-            with self.assertRaisesRegex(UsageFault, "tcp://10.0.0.1:2375 may be a daemon of another machine"):
+            with self.assertRaisesRegex(UsageFault, "tcp://10.0.0.1:2375 may be another machine's daemon"):
                 self.docker("tcp://10.0.0.1:2375").check("", {}, BuildOptions())
 
     def test_words(self) -> None:
@@ -179,7 +183,9 @@ class Refusing(support.FarmTest):
         name = "2c26b46b68ffc68ff99b453c1d30413413422d706483bfa0f98a5e886266e7ae"  # the digest of `foo`
         self.write(f"config/contexts/meta/{name}/meta.json", '{"Name": "foo", "Endpoints": {"docker": {"Host": "unix:///foo.sock"}}}')
         self.write("config/buildx/instances/own", '{"Name": "own", "Driver": "docker-container"}')
-        rows = [({}, words.OWN), ({"DOCKER_CONTEXT": "foo"}, "unix:///foo.sock"), ({"DOCKER_HOST": "unix:///a", "DOCKER_CONTEXT": "foo"}, "unix:///a")]
+        rows: list[tuple[dict[str, str], str]] = [
+            ({}, words.OWN), ({"DOCKER_CONTEXT": "foo"}, "unix:///foo.sock"), ({"DOCKER_HOST": "unix:///a", "DOCKER_CONTEXT": "foo"}, "unix:///a"),
+        ]
         for env, wanted in rows:
             with mock.patch.dict(os.environ, {"DOCKER_CONFIG": home} | env, clear=True):
                 self.assertEqual(words.daemon(), wanted)

@@ -142,9 +142,8 @@ class Trial:
             file.write(text)
         env = os.environ | {"DOCKER_HOST": self.daemons[node - 1].host}
         call = [*PYTHON_FARM, "build", "--home", self.home, "--node", str(node), "--builder", "docker", "--network", "none", "--progress", "plain"]
-        return subprocess.Popen(
-            [*call, "-f", file.name, *words, self.context], env=env, stdin=subprocess.DEVNULL, stdout=subprocess.PIPE, stderr=subprocess.STDOUT, text=True
-        )
+        call += ["-f", file.name, *words, self.context]
+        return subprocess.Popen(call, env=env, stdin=subprocess.DEVNULL, stdout=subprocess.PIPE, stderr=subprocess.STDOUT, text=True)
 
     def build(self, node: int, text: str, *words: str, status: int = 0) -> str:
         process = self.begin(node, text, *words)
