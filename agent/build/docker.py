@@ -99,7 +99,7 @@ class Docker:
         if os.geteuid():
             raise FarmFault("builds need the farm to run as root")
         if not self.host.startswith(UNIX):
-            raise UsageFault(f"{self.host} may be another machine's daemon, whose folders aren't here: name one of this machine, DOCKER_HOST=unix://..")
+            raise UsageFault(f"{self.host} may be another machine's daemon, whose folders aren't here: name one of this, DOCKER_HOST=unix://..")
         self._check_daemon()
         for name in REFUSED_ARGS:
             if name in build_args:
@@ -214,13 +214,16 @@ class Docker:
     def still(self, held: Iterable[CacheMount], check: Callable[[], None]) -> None:
         """That no step has the mounts any more, and that they are what was filled: a prune gives an id another directory."""
         mounts = list(held)
-        end_users([mount.path for mount in mounts])
+        end_users([mount.path for mount in mounts])  # of a SHARED folder: what a killed daemon left of another build
         for mount, path in zip(mounts, self._probe([mount.id for mount in mounts], check)):
             if path != mount.path:
                 raise FarmFault(f"BuildKit dropped the cache mount of {mount.slot} during the build, as a prune does: its steps had another folder")
 
     def leave(self, held: Iterable[CacheMount], ended_well: bool) -> None:
-        for mount in held:
+        mounts = list(held)
+        if mounts and not ended_well:
+            end_users([mount.path for mount in mounts])  # a step outlives its killed daemon
+        for mount in mounts:
             self.ids.leave(mount.slot, mount.id, ended_well)
 
     def _drop_old(self, slots: list[str]) -> None:
