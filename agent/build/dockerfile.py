@@ -212,13 +212,18 @@ class Planner:
             if instruction.keyword == "ONBUILD" and "from=" in instruction.text:
                 names.append("$")
             for flag in flags_of(instruction)[0] if instruction.keyword in ("RUN", "COPY", "ADD") else []:
-                if flag.word.startswith("--mount=") and "$" in flag.word:
-                    names.append("$")
-                elif flag.word.startswith("--mount="):
-                    names += [part.partition("=")[2] for part in flag.word[8:].split(",") if part.strip().lower().startswith("from=")]
+                if flag.word.startswith("--mount="):
+                    names += self._mounted(flag.word.removeprefix("--mount="))
                 elif flag.word.startswith("--from="):
                     names.append(flag.word[7:])
         return names
+
+    def _mounted(self, value: str) -> list[str]:
+        """The names that a mount says it is from. BuildKit expands the value of a key, which stays that key's."""
+        parts = [part.partition("=") for part in value.split(",")]
+        if any("$" in (key if self.reader.is_buildkit else key + text) for key, _, text in parts):
+            return ["$"]
+        return [text for key, _, text in parts if key.strip().lower() == "from"]
 
     def _empty(self, stage: Stage) -> None:
         """A stage that isn't needed keeps its name and place alone."""
@@ -335,8 +340,8 @@ class Planner:
         mount = mount_of(line, value, self.shared_as)
         if mount or not (has_variables and self.reader.is_buildkit):
             return mount
-        if any(c.isspace() or c in "\"'\\$" for c in value):
-            raise BadDockerfile(line, f"mount `{value[:200]}`: spaces, quotes and $ within it have no one reading")
+        if value.count(",") != flag.word.count(",") or any(c.isspace() or c in "\"'\\$" for c in value):
+            raise BadDockerfile(line, f"mount `{value[:200]}`: its variables' commas, spaces, quotes and $ have no one reading")
         return f"--mount={value}"
 
     # The text.

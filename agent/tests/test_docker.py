@@ -44,6 +44,7 @@ KIT: dict[str, tuple[str, list[str]]] = {
     "other flags": (f"FROM box\nCOPY --link --from=box /x /y\nRUN --network=none --security=sandbox {T},target=/a true\n", ["/a"]),
     "another script": (f"FROM box\nRUN {T},target=/a <<EOF\n#!/bin/sh\ntrue\nEOF\n", ["/a"]),
     "comments": (f"FROM box\n# RUN {T},target=/no true\nRUN true \\\n  # {T}\n  && true\n", []),
+    "a variable in an id": (f"FROM box AS one\nRUN {T},target=/a true\nFROM box\nARG V=v\nRUN {T},id=$V,target=/b true\n", ["v"]),
     "variables elsewhere": ("FROM box\nARG D=/t\nRUN --mount=type=tmpfs,target=$D true\n", []),
     # What BuildKit 0.8 wrote of these was that.
     "odd ids": (
@@ -64,6 +65,7 @@ REFUSED = [
     (f"FROM box AS a\nONBUILD RUN {T},target=/c true\nFROM a\nRUN true\n", NEW, "line 3: a has `ONBUILD RUN .*`: its cache can't be leased"),
     ("FROM box AS a\nONBUILD COPY --from=b /x /x\nFROM a\n", NEW, "line 3: a has `ONBUILD COPY .*`: the stage that it names"),
     (f"FROM box\nARG A=1 B=$A\nRUN {T},id=$B,target=/c true\n", NEW, "variable B"),
+    ("FROM box\nARG Q=a,type=x\nRUN --mount=type=bind,source=$Q,target=/c true\n", NEW, "no one reading"),
     ("FROM box\nARG Q=a\\ b\nRUN --mount=type=bind,source=$Q,target=/c true\n", NEW, "no one reading"),
 ]
 
