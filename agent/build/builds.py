@@ -232,7 +232,7 @@ class Build:
                 self.caller.say(f"image {self.builder.built(image)} is built, and isn't tagged")
             raise
         finally:
-            self.builder.leave(self.own, run.counts)
+            self.builder.leave(self.own, run.counts and run.ended == 0)
             if self.builder is self.builds.builder:
                 for path in run.paths.values():
                     self.builds.agent.places.forget(path)

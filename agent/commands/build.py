@@ -31,6 +31,8 @@ def request_of(args: argparse.Namespace) -> BuildRequest:
             raise UsageFault(f"--{name.replace('_', '-')} is Docker's: it goes with --builder docker")
     if not is_docker and args.network not in (None, "host"):
         raise UsageFault(f"--network {args.network} is Docker's: buildah's steps have this machine's network")
+    if args.platform and "," in args.platform:
+        raise UsageFault(f"--platform {args.platform}: one lease builds for one platform")
     if is_docker and args.format:
         raise UsageFault("--format is buildah's: the Docker daemon chooses it")
     given = [word.partition("=") for word in args.build_arg]

@@ -176,8 +176,8 @@ class Refusing(support.FarmTest):
         said = self.asked("build", "--builder", "docker", self.path("context"), status=70)
         self.assertIn(f"no Docker daemon answers at unix://{self.room}/no.sock: No such file", said)
         self.assertNotIn("ticket", said)
-        for row, status in ((["--cache-from", "x"], 64), (["--builder", "docker", "--format", "oci"], 64), (["--push"], 64), (["--network", "none"], 64)):
-            self.assertRegex(self.asked("build", *row, self.path("context"), status=status), "goes with|buildah's|wants the name")
+        for row, status in ((["--cache-from", "x"], 64), (["--builder", "docker", "--format", "oci"], 64), (["--push"], 64), (["--network", "none"], 64), (["--platform", "a/b,c/d"], 64)):
+            self.assertRegex(self.asked("build", *row, self.path("context"), status=status), "goes with|buildah's|wants the name|one platform")
 
     def test_daemon(self) -> None:
         """The daemon is the one that `docker build` would ask; a builder with a BuildKit of its own is refused."""
