@@ -23,7 +23,7 @@ from agent.folders.shared import Tenure
 from agent.runs.caller import Caller, Patience
 from agent.runs.run import Job, Placed, Run
 from agent.service.requests import BuildRequest, Built
-from agent.store.folder import put_file
+from agent.store.lasting import put_file
 from agent.words import Want, short_name
 
 IMAGE = "docker-image://"

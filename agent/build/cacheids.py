@@ -15,7 +15,7 @@ import time
 from dataclasses import asdict, dataclass, field, replace
 
 from agent.build.builder import CacheMount
-from agent.store.folder import put_file
+from agent.store.lasting import put_file
 from agent.words import short_name
 
 ENDING = 2.0  # seconds for a build of this agent that has just committed

@@ -31,7 +31,7 @@ from agent.faults import FarmFault, Missing, UsageFault
 from agent.runs.executions import launcher
 from agent.runs.launch import ORPHANED
 from agent.service.requests import BuildOptions
-from agent.store.folder import put_file
+from agent.store.lasting import put_file
 from agent.tools import need, whole, why
 from agent.words import short_name
 

@@ -382,8 +382,11 @@ class NodeAgent:
         return index
 
     def fill(self, slot: Slot, path: str, epoch: int, patience: Patience) -> None:
-        """Makes a path that is held what a slot begins from. What is spoilt in the store is got anew, from where it is right."""
+        """Makes a path that is held what a slot begins from. What stands there as it was needs no store. What is spoilt in the store is got
+        anew, from where it is right."""
         gone = Patience(patience.caller, None).check
+        if self.places.stands(path, slot.digest, gone):
+            return
         index = self.content(slot, epoch, patience)
         try:
             self.places.fill(self.store, index, path, gone)

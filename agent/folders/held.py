@@ -15,10 +15,10 @@ from dataclasses import dataclass
 from typing import Any, Callable, Iterable, Iterator
 
 from agent.folders import trees
-from agent.folders.listing import Entry, Listing, Mark, Walked, folder_of, is_same, mark_of, order, walk
+from agent.folders.listing import Entry, Listing, Mark, Walked, folder_of, mark_of, order, walk
 from agent.folders.standing import TICK, boot, identity, is_trusted
 from agent.folders.versions import loaded
-from agent.store.folder import put_file
+from agent.store.lasting import put_file
 
 FRESH = ".farm-new-"  # what the name of a file begins with that isn't whole yet
 FORM = "farm folder 1"

@@ -23,9 +23,9 @@ from agent.folders.held import Held
 from agent.folders.layout import FLAGS, LARGE, Layout, Part
 from agent.folders.listing import folder_of, mark_of
 from agent.folders.versions import PIECE, Version, none
-from agent.store.chunks import INDEX, TABLE, TAIL, is_whole
+from agent.store.chunks import INDEX, TABLE, TAIL
 from agent.store.folder import Store
-from agent.store.packing import name_of, put
+from agent.store.packing import CHECKED, Fresh, name_of, packed
 
 LEAST, USUAL, MOST = 1 << 14, 1 << 16, 1 << 18  # bytes of a chunk
 FULL = 1 << 17  # bytes behind which the next record that is done ends a chunk
@@ -128,13 +128,14 @@ class _Making:
                 at = cut.last + 1
                 if name is not None and rows[-1][0] == self.layout.starts[at]:
                     break  # from here on the old chunks may be taken over
-        with ThreadPoolExecutor(THREADS) as pool:
+        with Fresh(self.chunks) as fresh, ThreadPoolExecutor(THREADS) as pool:
             rest = iter(made)
             while some := list(islice(rest, AT_ONCE)):
                 self.check()
                 datas = [self._bytes(cut) for _, cut in some]
-                for (number, _), name in zip(some, pool.map(self._put, datas)):
+                for (number, _), name in zip(some, pool.map(lambda data: self._put(fresh, data), datas)):
                     rows[number] = (rows[number][0], name)
+            fresh.settle()
         table = b"".join(struct.pack("<Q", end) + bytes.fromhex(str(name)) for end, name in rows)
         size = 16 + len(table) + 40
         head = struct.pack("<8Q", 48, INDEX, FLAGS, LEAST, USUAL, MOST, 2**64 - 1, TABLE)
@@ -153,13 +154,13 @@ class _Making:
             return first
         end = self._same_until(first, end, was)
         last = bisect_right(self.old.ends, old.starts[was + end - first - 1]) - 1  # the last one that ends before a part which is as it was
-        while last >= number and (behind := old.starts_at.get(self.old.ends[last])) is None:
+        while last >= number and self.old.ends[last] not in old.starts_at:
             last -= 1  # it ends amid a large file or table
         if last < number:
             return first
         shift = starts[first] - old.starts[was]
         rows += zip((at + shift for at in self.old.ends[number : last + 1]), self.old.names[number : last + 1])
-        return first + behind - was
+        return first + old.starts_at[self.old.ends[last]] - was
 
     def _same_until(self, first: int, end: int, was: int) -> int:
         """Up to which part the old archive has the same ones in the same order: something that it has between them may be gone."""
@@ -168,10 +169,11 @@ class _Making:
             end = first + (end - first) // 2
         return end
 
-    def _put(self, data: bytes) -> str:
+    def _put(self, fresh: Fresh, data: bytes) -> str:
+        """Makes a chunk where none is there that is right."""
         name = name_of(data)
-        if not is_whole(self.chunks, name):
-            put(self.chunks, name, data)
+        if not CHECKED.is_right(self.chunks, name, len(data)):
+            fresh.add(name, packed(data))
         return name
 
     def _old_name(self, cut: Cut) -> str | None:
@@ -185,7 +187,7 @@ class _Making:
         number = self.old_begins.get(old.starts[first] + cut.begin)
         if number is None or self.old.ends[number] != old.starts[last] + cut.end:
             return None
-        return self.old.names[number]
+        return str(self.old.names[number])
 
     def _ends_of(self, number: int) -> list[int]:
         """Where the chunks of a large file end: of one that the old version has as that has it."""

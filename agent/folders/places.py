@@ -28,8 +28,8 @@ from agent.faults import FarmFault, UsageFault, named
 from agent.folders.held import Held
 from agent.folders.standing import identity
 from agent.folders.versions import REMEMBERED, Version, Versions, none
-from agent.store.chunks import is_kept
-from agent.store.folder import NEW, Store, put_file
+from agent.store.folder import Store
+from agent.store.lasting import NEW, put_file
 from agent.store.packing import ChunkSpoilt
 from agent.folders.trees import is_folder
 from agent.words import short_name
@@ -249,6 +249,19 @@ class Places:
             if is_within(path, os.path.realpath(folder)):
                 self.forget(path)
 
+    def stands(self, path: str, digest: str, check: Callable[[], None] = lambda: None) -> bool:
+        """Whether a path that is held is a folder of ours which holds that version still, so that no store is needed."""
+        if not is_folder(path) or not self._is_ours(path) or self._read(path)[3:] != [digest]:
+            return False
+        held = self._held(path)
+        if not held.entries:
+            return False
+        refuse_mounts(path)
+        if held.look(check) or held.odd:
+            self._note(path, None)  # from here on it is known as it is
+            return False
+        return True
+
     def fill(self, store: Store, content: bytes, path: str, check: Callable[[], None] = lambda: None) -> None:
         """Makes a path that is held what an index says, as long as `check` finds that somebody waits: of a folder of ours only what differs
         is written."""
@@ -342,7 +355,7 @@ class Places:
             try:
                 digest = store.publish(version.index, away)
             except FarmFault:
-                if not stood or all(is_kept(store.chunks, name) for name in version.names):
+                if not stood or not store.mend(version.index):
                     raise
                 version = index.make(held, none(store.chunks), store.chunks, check)
                 digest = store.publish(version.index, away)

@@ -56,10 +56,10 @@ class Tenure:
     recalled: bool = False
     closing: bool = False
     used: bool = False  # an execution began under it
+    end: Closed | None = None  # what came of it, once it is closed
     home: Home | None = None
     mount: CacheMount | None = None  # its own there
     ended_well: bool = True  # each build that had it
-    end: Closed | None = None  # what came of it, once it is closed
 
     def has_home(self, home: Home | None) -> bool:
         """Whether who wants it there may enter it: any place will do to be bound."""
@@ -176,7 +176,7 @@ class SharedFolders:
             agent.give_back(grant.ticket, epoch)
             raise
 
-    def leave(self, folder: str, tenure: Tenure, caller: Caller, waits: bool = False, ended_well: bool = True) -> Closed:
+    def leave(self, folder: str, tenure: Tenure, caller: Caller, *, ended_well: bool = True, waits: bool = False) -> Closed:
         """Counts an execution out, once its own lease has ended. The last one closes the folder. What came of that; one that isn't the last
         waits for it only where it is to. A caller may leave meanwhile, and the folder is closed all the same: what others wrote there
         counts too."""

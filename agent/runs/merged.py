@@ -23,7 +23,7 @@ from agent.folders.listing import edits
 from agent.folders.merging import FAIL, is_database, merge
 from agent.folders.places import Places
 from agent.folders.versions import Version, none
-from agent.runs.caller import LATE, Caller, Patience
+from agent.runs.caller import LATE, Patience
 from agent.service.operators import Snapshot
 from agent.store.packing import ChunkSpoilt
 from agent.tools import LOOK

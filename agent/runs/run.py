@@ -178,8 +178,8 @@ class Run:
             status = None if ask is None else self._run_asked(ask, tenures)
         finally:
             for folder, tenure in tenures.items():
-                well = self.ended == 0 or not self.begun
-                ends.append(self.agent.shared.leave(folder, tenure, self.caller, waits=self.job.must_commit, ended_well=well))
+                ended_well = self.ended == 0 or not self.begun
+                ends.append(self.agent.shared.leave(folder, tenure, self.caller, ended_well=ended_well, waits=self.job.must_commit))
                 self.caller.say(ends[-1].said)
         if status == 0 and any(closed.is_left for closed in ends):
             raise ClientGone("nobody waits for it any more")

@@ -5,34 +5,17 @@ Owes the filters that a content's chunks are all counted: what is forgotten is f
 """
 from __future__ import annotations
 
-import ctypes
-import hashlib
-import mmap
 import os
 import struct
-from typing import Any
 
 from agent.faults import FarmFault
 
 INDEX = 0x96824D9C7B129FF9
 TABLE = 0xE75B9E112F17417D
 TAIL = 0x4B4F050E5549ECD1
-ZSTD = b"\x28\xb5\x2f\xfd"  # what a chunk begins with, as Debian's casync writes it; one that begins otherwise isn't looked into
+ZSTD = b"\x28\xb5\x2f\xfd"  # what a chunk begins with, as Debian's casync writes it
 
 LARGEST = 1 << 28  # bytes of a chunk: casync's are far smaller
-
-
-def _zstd_library() -> Any:
-    """The library that casync itself calls."""
-    try:
-        library = ctypes.CDLL("libzstd.so.1")
-    except OSError:
-        return None
-    library.ZSTD_findFrameCompressedSize.restype = library.ZSTD_decompress.restype = ctypes.c_size_t
-    return library
-
-
-_zstd = _zstd_library()
 
 
 def chunk_names(index: bytes) -> list[str]:
@@ -75,41 +58,3 @@ def table(index: bytes) -> range:
 
 def chunk_path(folder: str, name: str) -> str:
     return os.path.join(folder, name[:4], f"{name}.cacnk")
-
-
-def is_kept(folder: str, name: str) -> bool:
-    """Whether a chunk is there. A power failure leaves a file without bytes of one that wasn't synced yet."""
-    try:
-        return os.path.getsize(chunk_path(folder, name)) > 0
-    except OSError:
-        return False
-
-
-def is_whole(folder: str, name: str) -> bool:
-    """Whether a chunk is there with its end, which is found without unpacking it: a power failure can cut a file short as well."""
-    try:
-        with open(chunk_path(folder, name), "rb") as file, mmap.mmap(file.fileno(), 0, access=mmap.ACCESS_COPY) as data:
-            if not _zstd or data[:4] != ZSTD:
-                return len(data) >= len(ZSTD)
-            first = ctypes.c_char.from_buffer(data)
-            found = _zstd.ZSTD_findFrameCompressedSize(ctypes.byref(first), ctypes.c_size_t(len(data)))
-            del first  # else it keeps the mapping
-            return bool(found == len(data))
-    except (OSError, ValueError):  # it isn't there, or has no bytes
-        return False
-
-
-def is_right(folder: str, name: str, size: int) -> bool:
-    """Whether a chunk is what its name says: casync calls it by the digest of what is packed in it, of which it knows two."""
-    try:
-        with open(chunk_path(folder, name), "rb") as file:
-            data = file.read()
-    except OSError:
-        return False
-    if not _zstd or data[:4] != ZSTD or "sha512_256" not in hashlib.algorithms_available:
-        return len(data) >= len(ZSTD)
-    if not 0 <= size <= LARGEST:
-        return False
-    unpacked = ctypes.create_string_buffer(size)
-    found = _zstd.ZSTD_decompress(unpacked, ctypes.c_size_t(size), data, ctypes.c_size_t(len(data)))
-    return bool(found == size and name in [hashlib.new(kind, unpacked).hexdigest() for kind in ("sha512_256", "sha256")])

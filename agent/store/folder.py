@@ -1,25 +1,22 @@
 """Where contents are kept: the indexes of folders by their digests, and the chunks that they name.
 
 Owes the filters that an index and all its chunks are on the device, and in the shared store, before `publish` returns: only then may a
-Commit name the digest. A store need not be trusted for what it hands out: an index is checked by its digest here, a chunk by casync.
+Commit name the digest. A store need not be trusted for what it hands out: an index is checked by its digest, a chunk by its name.
 """
 from __future__ import annotations
 
 import contextlib
-import ctypes
 import fcntl
 import hashlib
 import os
-import tempfile
 import time
 from typing import Callable, Iterator, Protocol
 
-from agent.store.chunks import chunk_names, chunk_path, chunk_sizes, is_kept, is_right
-from agent.faults import FarmFault, named
+from agent.faults import FarmFault
+from agent.store.chunks import chunk_names, chunk_path, chunk_sizes
+from agent.store.lasting import put_file
+from agent.store.packing import CHECKED, ChunkSpoilt, unpacked, wrong_names
 from agent.words import DIGEST, EMPTY
-
-NEW = ".new-"  # what the name of a file begins with that isn't whole yet
-_libc = ctypes.CDLL(None, use_errno=True)
 
 
 class ChunksMissing(FarmFault):
@@ -34,8 +31,8 @@ class Store(Protocol):
 
     def publish(self, index: bytes, away: Callable[[str], None] = lambda why: None, base: bytes = b"") -> str:
         """Keeps an index whose chunks are in the folder, and gives its digest. All of it lasts then. Why it isn't so yet `away` hears now and
-        then, while a store that other machines share can't be reached. What the index of a version that isn't forgotten meanwhile has,
-        the `base`, is there: it isn't looked for."""
+        then, while a store that other machines share can't be reached. Each chunk is compared with its name before it is relied on. What the
+        index of a version that isn't forgotten meanwhile has, the `base`, isn't looked for in a shared store where it was found already."""
 
     def index(self, digest: str) -> bytes | None:
         """The index of a digest; none where it isn't here."""
@@ -44,21 +41,10 @@ class Store(Protocol):
         """Sees to it that the chunks of an index are in the folder."""
 
     def mend(self, index: bytes) -> bool:
-        """Forgets the chunks of an index that are spoilt here, so that they are missing. Whether any is, as those are that were forgotten
-        while they were wanted."""
+        """Reads all chunks of an index anew: those that are spoilt are as good as missing. Whether any is."""
 
     def offer(self, digest: str) -> bool:
         """Gives the shared store what another machine misses there, where it is here. Whether it did."""
-
-
-def sync_all(folder: str) -> None:
-    """Everything in the folder's file system is on the device: casync syncs nothing by itself."""
-    handle = os.open(folder, os.O_RDONLY | os.O_DIRECTORY)
-    try:
-        if _libc.syncfs(handle):
-            raise FarmFault(f"{folder} can't be synced: {os.strerror(ctypes.get_errno())}")
-    finally:
-        os.close(handle)
 
 
 def is_old(path: str, oldest: float) -> bool:
@@ -67,37 +53,6 @@ def is_old(path: str, oldest: float) -> bool:
         return os.lstat(path).st_mtime <= oldest
     except FileNotFoundError:
         return False  # it has its whole name now, or somebody else forgot it
-
-
-def put_file(path: str, data: bytes, is_synced: bool = True) -> None:
-    """A file that lasts, whole or not at all: written beside, synced, renamed, and its folder synced; or else synced with others."""
-    folder = os.path.dirname(path)
-    os.makedirs(folder, exist_ok=True)
-    handle, beside = tempfile.mkstemp(prefix=NEW, dir=folder)
-    try:
-        with named(path):
-            with os.fdopen(handle, "wb") as file:
-                file.write(data)
-                file.flush()
-                if is_synced:
-                    os.fsync(file.fileno())
-        os.rename(beside, path)
-    except BaseException:
-        os.unlink(beside)
-        raise
-    if not is_synced:
-        return
-    held = os.open(folder, os.O_RDONLY | os.O_DIRECTORY)
-    try:
-        os.fsync(held)
-    finally:
-        os.close(held)
-
-
-def new_names(index: bytes, base: bytes) -> list[str]:
-    """The chunks of an index that another one hasn't, in order."""
-    known = set(chunk_names(base))
-    return [name for name in chunk_names(index) if name not in known]
 
 
 class FolderStore:
@@ -122,12 +77,7 @@ class FolderStore:
 
     def publish(self, index: bytes, away: Callable[[str], None] = lambda why: None, base: bytes = b"") -> str:
         digest = hashlib.sha256(index).hexdigest()
-        for name in new_names(index, base):
-            try:
-                os.utime(chunk_path(self.chunks, name))  # what is fresh isn't forgotten
-            except FileNotFoundError:
-                raise FarmFault(f"the chunk {name} is gone from {self.chunks}") from None
-        sync_all(self.chunks)
+        self.fetch(index)
         put_file(f"{self.indexes}/{digest}", index)
         return digest
 
@@ -144,22 +94,28 @@ class FolderStore:
         return data if hashlib.sha256(data).hexdigest() == digest else None
 
     def fetch(self, index: bytes) -> None:
-        missing = [name for name in chunk_names(index) if not is_kept(self.chunks, name)]
+        missing = self.missing(index)
         if missing:
-            raise FarmFault(f"{len(missing)} chunks of a version aren't in {self.chunks}, {missing[0]} among them")
+            raise FarmFault(f"{len(missing)} chunks of a version aren't in {self.chunks} as they were made, {missing[0]} among them")
+
+    def missing(self, index: bytes) -> list[str]:
+        """The chunks of an index that aren't here, or aren't what their names say."""
+        return wrong_names(self.chunks, chunk_sizes(index))
 
     def spoilt(self, index: bytes) -> list[str]:
-        """The chunks of an index that are here, and aren't what their names say."""
-        return [name for name, size in chunk_sizes(index).items() if is_kept(self.chunks, name) and not is_right(self.chunks, name, size)]
+        """The chunks of an index that aren't here, or aren't what their names say. All are read."""
+        found = []
+        for name, size in chunk_sizes(index).items():
+            try:
+                unpacked(self.chunks, name, size)
+            except ChunkSpoilt:
+                found.append(name)
+        return found
 
     def mend(self, index: bytes) -> bool:
-        spoilt = self.spoilt(index)
-        if spoilt:
-            with self._locked(fcntl.LOCK_EX):  # nobody counts on them just now
-                for name in spoilt:
-                    with contextlib.suppress(FileNotFoundError):
-                        os.unlink(chunk_path(self.chunks, name))
-        return not all(is_kept(self.chunks, name) for name in chunk_names(index))
+        for name in self.spoilt(index):
+            CHECKED.forget(chunk_path(self.chunks, name))
+        return bool(self.missing(index))
 
     def offer(self, digest: str) -> bool:
         return False  # all see one folder

@@ -19,4 +19,4 @@ def open_store(home: str, broker: str | None, contents: str | None, hints: Hints
     root = contents or f"{home}/contents"
     if not broker or contents:
         return FolderStore(root)
-    return RedisStore(broker, root, farm_name(hints), hints.chunk_key())
+    return RedisStore(broker, root, farm_name(hints))

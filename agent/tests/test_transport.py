@@ -3,6 +3,7 @@ from __future__ import annotations
 
 import contextlib
 import os
+import shutil
 import socket
 import subprocess
 import threading
@@ -16,6 +17,7 @@ from agent.store.chunks import chunk_names, chunk_path
 from agent.faults import ClientGone, FarmFault, Missing, UsageFault
 from agent.transport.hints import Hints, make_key
 from agent.transport.needs import Needs, parts
+from agent.store.packing import packed
 from agent.store.redis import RedisStore
 from agent.transport.redis import RedisTransport
 from agent.transport.redis_wire import Redis, RedisAway, RedisFault
@@ -100,18 +102,18 @@ class OverRedis(Carries):
             transport.server.call("FLUSHALL")
             transport.receive("node.1", 0.05)
             self.carries(transport)
-            self.assertFalse(RedisStore(url, self.path("a"), "t", b"k").keeps_well())
+            self.assertFalse(RedisStore(url, self.path("a"), "t").keeps_well())
         transport.send("node.1", "lost")
         self.assertIsNone(transport.receive("node.1", 0.05))
 
     def test_keeps_well(self) -> None:
         with support.redis_server(self.room, "--appendonly", "yes", "--appendfsync", "always") as url:
-            self.assertTrue(RedisStore(url, self.path("a"), "t", b"k").keeps_well())
+            self.assertTrue(RedisStore(url, self.path("a"), "t").keeps_well())
 
     @unittest.skipUnless(support.has("casync"), support.needs("casync"))
     def test_contents(self) -> None:
         with support.redis_server(self.room) as url:
-            one, other = (RedisStore(url, self.path(name), "t", b"k") for name in "ab")
+            one, other = (RedisStore(url, self.path(name), "t") for name in "ab")
             self.write("tree/f", "text" * 1000)
             index, digest = support.kept(one, self.path("tree"))
             name = f"t:chunk:{chunk_names(index)[0]}"
@@ -120,6 +122,8 @@ class OverRedis(Carries):
                 one.server.call("SET", name, bad)
                 with self.assertRaisesRegex(ChunksMissing, "1 chunks of a version"):
                     trees.extract(other, index, self.path("out"))
+            one.server.call("SET", name, b"s" * 32 + sealed)  # as older agents wrote it
+            trees.extract(RedisStore(url, self.path("later"), "t"), index, self.path("later-out"))
             one.server.call("SET", f"t:index:{digest}", "x")
             self.assertIsNone(other.index(digest))
             self.assertEqual((other.offer(digest), one.offer(digest)), (False, True))
@@ -141,10 +145,25 @@ class OverRedis(Carries):
             self.assertTrue(os.path.exists(self.path("forgotten")))
 
     @unittest.skipUnless(support.has("casync"), support.needs("casync"))
+    def test_compared(self) -> None:
+        """A chunk that is in the store already isn't believed: a commit that relies on it is readable when its maker is gone."""
+        with support.redis_server(self.room) as url:
+            self.write("tree/f", "text" * 1000)
+            index, _ = support.kept(RedisStore(url, self.path("before"), "t"), self.path("tree"))
+            name = f"t:chunk:{chunk_names(index)[0]}"
+            for number, bad in enumerate((b"", b"\0" * 300, b"\x28\xb5\x2f\xfd" + b"x" * 300, packed(b"another chunk"))):
+                maker = RedisStore(url, self.path(f"maker{number}"), "t")
+                maker.server.call("SET", name, bad)
+                self.assertEqual(support.kept(maker, self.path("tree"))[0], index)
+                shutil.rmtree(self.path(f"maker{number}"))
+                trees.extract(RedisStore(url, self.path(f"reader{number}"), "t"), index, self.path(f"out{number}"))
+                self.assertEqual(self.read(f"out{number}/f"), "text" * 1000)
+
+    @unittest.skipUnless(support.has("casync"), support.needs("casync"))
     def test_away(self) -> None:
         """What a command made isn't lost with a server that is away when it is to be kept. What a server refuses is told at once."""
         with support.redis_server(self.room) as url:
-            store = RedisStore(url, self.path("a"), "t", b"k")
+            store = RedisStore(url, self.path("a"), "t")
             self.write("tree/f", "text" * 1000)
             index, digest = support.kept(store, self.path("tree"))
             store.server.call("CONFIG", "SET", "maxmemory", "1")
@@ -155,7 +174,7 @@ class OverRedis(Carries):
         threading.Timer(1.5, lambda: back.append(subprocess.Popen(words))).start()
         try:
             self.assertEqual(store.publish(index), digest)
-            self.assertEqual(RedisStore(url, self.path("b"), "t", b"k").index(digest), index)
+            self.assertEqual(RedisStore(url, self.path("b"), "t").index(digest), index)
         finally:
             for server in back:
                 server.terminate()
@@ -174,28 +193,28 @@ class OverRedis(Carries):
             return [1] * len(commands)
 
         store = RedisStore.__new__(RedisStore)
-        store.server, store.farm = mock.Mock(calls=call), "t"
+        store.server, store.farm, store.lock, store.compared = mock.Mock(calls=call), "t", threading.Lock(), {}
         module = "agent.store.redis"
         with (
             mock.patch(f"{module}.time.monotonic", lambda: now[0]), mock.patch(f"{module}.time.sleep"), mock.patch(f"{module}.AT_ONCE", 1),
-            mock.patch(f"{module}.new_names", lambda index, base: list("01234567")),
+            mock.patch(f"{module}.chunk_names", lambda index: list("01234567") if index else []), mock.patch.object(store, "_packed", str.encode),
         ):
             faults[6] = 1
-            store._send("8", b"", away.append)
+            store._send("8", b"i", away.append)
             self.assertEqual("".join(name[-1] for name in calls), "0123456012345678")
             self.assertEqual(away, ["waiting for the store over Redis, which takes no contents: away"])
             faults[6] = 1
             with self.assertRaises(ClientGone):  # who hears of it may give up
-                store._send("8", b"", mock.Mock(side_effect=ClientGone))
+                store._send("8", b"i", mock.Mock(side_effect=ClientGone))
             faults[6] = 99
             with self.assertRaisesRegex(FarmFault, "took no contents: away"):
-                store._send("8", b"", away.append)
+                store._send("8", b"i", away.append)
             self.assertLess(len(calls), 60)
 
     @unittest.skipUnless(support.has("casync"), support.needs("casync"))
     def test_forget(self) -> None:
         with support.redis_server(self.room) as url:
-            store = RedisStore(url, self.path("a"), "t", b"k")
+            store = RedisStore(url, self.path("a"), "t")
             self.write("one/f", "a" * 300_000)
             self.write("one/g", "c" * 300_000)
             self.write("two/f", "b" * 300_000)
@@ -207,7 +226,7 @@ class OverRedis(Carries):
             indexes, chunks = store.forget({one}, 3600)  # what only that index named is young, but the chunk whose time nobody set
             self.assertEqual((indexes, chunks), (1, 1))
             self.assertGreaterEqual(store.forget({one}, 0)[1], 1)
-            fresh = RedisStore(url, self.path("b"), "t", b"k")
+            fresh = RedisStore(url, self.path("b"), "t")
             self.assertIsNone(fresh.index(two))
             trees.extract(fresh, fresh.index(one) or b"", self.path("out"))
             self.assertEqual(self.read("out/f"), "a" * 300_000)
@@ -215,7 +234,7 @@ class OverRedis(Carries):
             self.assertEqual(store.publish(store.folder.index(two) or b""), two)  # what is here and was forgotten there is given anew
             trees.extract(fresh, fresh.index(two) or b"", self.path("out2"))
             store.server.call("SET", f"t:index:{one}", "x")
-            lone = RedisStore(url, self.path("c"), "t", b"k")
+            lone = RedisStore(url, self.path("c"), "t")
             with self.assertRaisesRegex(FarmFault, "isn't readable, so no chunk .* prune that"):
                 lone.forget({one}, 0)
             self.assertEqual(store.server.call("EXISTS", f"t:chunk:{chunk}"), 1)
@@ -263,7 +282,7 @@ class Servers(unittest.TestCase):
         strange: list[Any] = [None, 7, b"x", [], [[b"x"], [7, None]], [b"x", 7], [b"0", [7, None, [b"x"]]], [b"x"] * 3]
         for said in strange:
             store = RedisStore.__new__(RedisStore)
-            store.server, store.farm, store.folder, store.key = mock.Mock(), "t", mock.Mock(index=lambda digest: None), b"k"
+            store.server, store.farm, store.folder, store.lock = mock.Mock(), "t", mock.Mock(index=lambda digest: None), threading.Lock()
             store.server.call = lambda *words: said
             store.server.calls = lambda commands: [said] * len(commands)
             self.assertFalse(store.keeps_well())

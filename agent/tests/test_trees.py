@@ -22,7 +22,9 @@ from agent.folders.held import Held
 from agent.folders.listing import walk
 from agent.folders.index import make_whole
 from agent.folders.standing import identity, is_trusted
-from agent.store.folder import FolderStore, put_file
+from agent.store.folder import FolderStore
+from agent.store.lasting import put_file
+from agent.store.packing import packed
 from agent.words import EMPTY
 
 from agent.tests import support
@@ -199,13 +201,54 @@ class Trees(support.RoomTest):
         with open(paths[0], "rb+") as file:
             file.seek(10)
             file.write(b"spoilt")
-        with self.assertRaises(trees.NotMade):
-            trees.extract(self.store, index, self.path("out"))
         with self.assertRaisesRegex(FarmFault, "1 chunks of a version aren't in"):
             trees.extract_whole(self.store, index, self.path("out2"))
         self.assertFalse(os.path.exists(self.path("out2")))
         support.kept(self.store, tree)
         self.assertFalse(self.store.mend(index))
+
+    def test_spoilt(self) -> None:
+        """A chunk counts if its bytes unpack to what its name says: one that is spoilt is replaced before a commit relies on it."""
+        tree = self.tree()
+        self.write("tree/other", "y" * 200_000)
+        index = support.kept(self.store, tree)[0]
+        names = chunk_names(index)
+        with open(chunk_path(self.store.chunks, names[1]), "rb") as file:
+            other = file.read()
+        path = chunk_path(self.store.chunks, names[0])
+        rows = (b"\0" * os.path.getsize(path), b"", b"xz head, and what follows", other, b"\x28\xb5\x2f\xfd" + b"\0" * 40, packed(b"x" * 50_000_000))
+        for number, bad in enumerate(rows):
+            os.unlink(path)
+            with open(path, "wb") as file:
+                file.write(bad)
+            with self.assertRaisesRegex(FarmFault, f"1 chunks of a version aren't in .*{names[0]}"):
+                self.store.publish(index)
+            self.assertEqual(support.kept(self.store, tree)[0], index)
+            trees.extract(self.store, index, self.path(f"out{number}"))
+            self.assertEqual(told(self.path(f"out{number}")), told(tree))
+
+    def test_synced_first(self) -> None:
+        """No chunk has its name before its bytes are on the device, and its folder is before the index is."""
+        done = list[str]()
+        fsync, rename = os.fsync, os.rename
+
+        def synced(handle: int) -> None:
+            fsync(handle)
+            done.append(os.readlink(f"/proc/self/fd/{handle}"))
+
+        def renamed(one: str, other: str) -> None:
+            rename(one, other)
+            done.append(f"{one} {other}")
+
+        tree = self.tree()
+        with mock.patch("os.fsync", synced), mock.patch("os.rename", renamed):
+            index, digest = support.kept(self.store, tree)
+        named = next(place for place, each in enumerate(done) if each.endswith(f" {self.store.indexes}/{digest}"))
+        for name in chunk_names(index):
+            path = chunk_path(self.store.chunks, name)
+            place = next(place for place, each in enumerate(done) if each.endswith(f" {path}"))
+            self.assertIn(done[place].split(" ")[0], done[:place])
+            self.assertIn(os.path.dirname(path), done[place:named])
 
     def test_forget_meanwhile(self) -> None:
         """What gets its whole name, or is forgotten by another one, while it is looked for is no fault."""

@@ -50,10 +50,6 @@ class Hints:
         """A name for what the farm keeps in places that farms share: no two keys have one."""
         return hmac.new(self.key, b"name", hashlib.sha256).hexdigest()[:16]
 
-    def chunk_key(self) -> bytes:
-        """The key under which chunks are sealed in places that others can write."""
-        return hmac.new(self.key, b"chunks", hashlib.sha256).digest()
-
     def _mac(self, text: str) -> str:
         return hmac.new(self.key, text.encode(), hashlib.sha256).hexdigest()
 

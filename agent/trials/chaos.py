@@ -28,7 +28,6 @@ sys.path.insert(0, str(Path(__file__).resolve().parents[2]))
 from agent.store.chunks import chunk_names  # noqa: E402
 from agent.runs.executions import can_have_namespaces  # noqa: E402
 from agent.faults import FarmFault  # noqa: E402
-from agent.transport.hints import Hints  # noqa: E402
 from agent.store.redis import RedisStore  # noqa: E402
 from agent.store.folder import FolderStore, Store  # noqa: E402
 from agent.trials.farms import PYTHON_FARM, Attacker, Farm, Machines, OverRedis, Pipes, kill  # noqa: E402
@@ -298,8 +297,7 @@ class Chaos:
         spoilt = self.attacker.spoilt if self.attacker else set()
         if not isinstance(self.farm, OverRedis):
             return [Copy("the farm's store", FolderStore(f"{self.farm.home(None)}/contents"), True, "", spoilt)]
-        hints = Hints(f"{self.farm.home(None)}/key")
-        fresh = RedisStore(self.farm.url, f"{self.room}/fresh", self.farm.farm, hints.chunk_key())
+        fresh = RedisStore(self.farm.url, f"{self.room}/fresh", self.farm.farm)
         made: list[Source] = [Copy("Redis", fresh, True, self.farm.farm, spoilt)]
         for node in range(1, NODES + 1):
             made.append(Copy(f"node {node}", FolderStore(f"{self.farm.home(node)}/contents"), False, "", spoilt))

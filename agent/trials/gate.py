@@ -125,8 +125,7 @@ def check_lines(home: str, out: str, wanted: list[list[str]]) -> None:
 def suites(room: str) -> str:
     """The agent's tests of whole farms, over the program."""
     need_tools("casync")
-    names = ["agent.tests.test_farm", "agent.tests.test_builds", "agent.tests.test_docker", "agent.tests.test_merged"]
-    suite = unittest.defaultTestLoader.loadTestsFromNames(names)
+    suite = unittest.defaultTestLoader.loadTestsFromNames([f"agent.tests.test_{name}" for name in ("farm", "builds", "merged", "docker")])
     with open(f"{room}/tests", "w+") as said:
         result = unittest.TextTestRunner(stream=said).run(suite)
         said.seek(0)

@@ -31,7 +31,6 @@ from agent.faults import FarmFault  # noqa: E402
 from agent.folders.versions import Versions  # noqa: E402
 from agent.store.folder import FolderStore, Store  # noqa: E402
 from agent.store.redis import RedisStore  # noqa: E402
-from agent.transport.hints import Hints  # noqa: E402
 from agent.trials.farms import PYTHON_FARM, Farm, OverRedis, Pipes, kill  # noqa: E402
 from agent.words import EMPTY  # noqa: E402
 
@@ -205,10 +204,13 @@ class Trial:
     def store(self) -> Store:
         if not isinstance(self.farm, OverRedis):
             return FolderStore(f"{self.farm.home(None)}/contents")
-        return RedisStore(self.farm.url, f"{self.room}/fresh", self.farm.farm, Hints(f"{self.farm.home(None)}/key").chunk_key())
+        return RedisStore(self.farm.url, f"{self.room}/fresh", self.farm.farm)
 
     def read_versions(self) -> None:
-        store = self.store()
+        try:
+            store = self.store()
+        except FarmFault:  # Redis is away just now
+            return
         for line in self.ask("log", "locked:c").splitlines():
             words = line.split(" ")
             number, digest = int(words[2]), words[5]
