@@ -18,7 +18,8 @@ from agent.service.client import Asked
 from agent.service.requests import BUILD_ENV, BuildOptions, BuildRequest, Built
 
 LOGINS = ("auths", "credsStore", "credHelpers")  # of Docker's config.json
-OWN = "unix:///var/run/docker.sock"
+UNIX = "unix://"
+OWN = f"{UNIX}/var/run/docker.sock"
 OF_DOCKER = ("cache_from", "build_context", "progress")
 
 
@@ -100,4 +101,4 @@ def daemon() -> str:
     driver = object_in(f"{home}/buildx/instances/{chosen}").get("Driver", "docker")
     if driver != "docker":
         raise UsageFault(f"the builder {chosen} is of {driver}, and keeps its cache mounts where no farm can fill them: docker buildx use default")
-    return host
+    return UNIX + os.path.realpath(host.removeprefix(UNIX)) if host.startswith(UNIX) else host

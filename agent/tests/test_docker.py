@@ -186,7 +186,7 @@ class Refusing(support.FarmTest):
         self.write(f"config/contexts/meta/{name}/meta.json", '{"Name": "foo", "Endpoints": {"docker": {"Host": "unix:///foo.sock"}}}')
         self.write("config/buildx/instances/own", '{"Name": "own", "Driver": "docker-container"}')
         rows: list[tuple[dict[str, str], str]] = [
-            ({}, words.OWN), ({"DOCKER_CONTEXT": "foo"}, "unix:///foo.sock"), ({"DOCKER_HOST": "unix:///a", "DOCKER_CONTEXT": "foo"}, "unix:///a"),
+            ({}, f"unix://{os.path.realpath('/var/run/docker.sock')}"), ({"DOCKER_CONTEXT": "foo"}, "unix:///foo.sock"), ({"DOCKER_HOST": "unix:///a", "DOCKER_CONTEXT": "foo"}, "unix:///a"),
         ]
         for env, wanted in rows:
             with mock.patch.dict(os.environ, {"DOCKER_CONFIG": home} | env, clear=True):
