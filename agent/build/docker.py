@@ -101,6 +101,8 @@ class Docker:
         if not self.host.startswith(UNIX):
             raise UsageFault(f"{self.host} may be another machine's daemon, whose folders aren't here: name one of this, DOCKER_HOST=unix://..")
         self._check_daemon()
+        if options.contexts and self.version < WITH_BUILDX:
+            raise UsageFault("--build-context wants Docker 23.0 or newer")
         for name in REFUSED_ARGS:
             if name in build_args:
                 raise BadDockerfile(0, f"the build argument {name} isn't carried out: it changes which cache mounts BuildKit finds")

@@ -176,8 +176,10 @@ class Refusing(support.FarmTest):
         said = self.asked("build", "--builder", "docker", self.path("context"), status=70)
         self.assertIn(f"no Docker daemon answers at unix://{self.room}/no.sock: No such file", said)
         self.assertNotIn("ticket", said)
-        for row, status in ((["--cache-from", "x"], 64), (["--builder", "docker", "--format", "oci"], 64), (["--push"], 64), (["--network", "none"], 64), (["--platform", "a/b,c/d"], 64)):
-            self.assertRegex(self.asked("build", *row, self.path("context"), status=status), "goes with|buildah's|wants the name|one platform")
+        rows = [(["--cache-from", "x"], "goes with"), (["--builder", "docker", "--format", "oci"], "buildah's"), (["--push"], "wants the name"),
+                (["--network", "none"], "this machine's network"), (["--platform", "a/b,c/d"], "one platform")]
+        for row, why in rows:
+            self.assertIn(why, self.asked("build", *row, self.path("context"), status=64))
 
     def test_daemon(self) -> None:
         """The daemon is the one that `docker build` would ask; a builder with a BuildKit of its own is refused."""
@@ -186,7 +188,8 @@ class Refusing(support.FarmTest):
         self.write(f"config/contexts/meta/{name}/meta.json", '{"Name": "foo", "Endpoints": {"docker": {"Host": "unix:///foo.sock"}}}')
         self.write("config/buildx/instances/own", '{"Name": "own", "Driver": "docker-container"}')
         rows: list[tuple[dict[str, str], str]] = [
-            ({}, f"unix://{os.path.realpath('/var/run/docker.sock')}"), ({"DOCKER_CONTEXT": "foo"}, "unix:///foo.sock"), ({"DOCKER_HOST": "unix:///a", "DOCKER_CONTEXT": "foo"}, "unix:///a"),
+            ({}, f"unix://{os.path.realpath('/var/run/docker.sock')}"), ({"DOCKER_CONTEXT": "foo"}, "unix:///foo.sock"),
+            ({"DOCKER_HOST": "unix:///a", "DOCKER_CONTEXT": "foo"}, "unix:///a"),
         ]
         for env, wanted in rows:
             with mock.patch.dict(os.environ, {"DOCKER_CONFIG": home} | env, clear=True):
