@@ -218,7 +218,8 @@ class Build:
         self.own = self.builder.enter(image.room, wanted.values(), self._check())
         self.held |= dict(zip(wanted, self.own))
         with open(image.dockerfile, "w", encoding="utf-8", newline="") as file:
-            file.write(plan.text(lambda mount: self.builder.word(mount, self.held[mount.folder])))
+            first = self.builder.first_words(image.options)
+            file.write(plan.text(lambda mount: self.builder.word(mount, self.held[mount.folder]), first))
         command, env = self.builder.command(image)
         return Placed(command, env, {folder: mount.path for folder, mount in self.held.items()})
 

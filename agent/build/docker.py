@@ -157,8 +157,8 @@ class Docker:
         words += ["--target", image.target] if image.target else []
         for key, value in (("network", options.network), ("progress", options.progress), ("platform", options.platform)):
             words += [f"--{key}={value}"] if value else []
-        for flag, is_said in (("--quiet", options.quiet), ("--no-cache", options.no_cache), ("--pull", options.pull)):
-            words += [flag] if is_said else []
+        words += ["--quiet"] if options.quiet else []
+        words += ["--pull"] if options.pull else []
         several = (("secret", options.secrets), ("ssh", options.ssh), ("cache-from", options.cache_from), ("build-context", options.contexts))
         for key, values in several:
             words += [f"--{key}={value}" for value in values]
@@ -212,6 +212,10 @@ class Docker:
         sharing = "shared" if mount.sharing == "shared" else "locked"
         word = f"--mount=type=cache,id={held.id},target={mount.target},sharing={sharing}" + ("" if mount.writable else ",readonly")
         return f"{word} --mount=type=tmpfs,target=/dev/{held.id}"
+
+    def first_words(self, options: BuildOptions) -> str:
+        """What makes each step's key a new one. BuildKit's own `--no-cache` would give cache mounts new directories too."""
+        return f"--mount=type=tmpfs,target=/dev/farm-{secrets.token_hex(16)} " if options.no_cache else ""
 
     def still(self, held: Iterable[CacheMount], check: Callable[[], None]) -> None:
         """That no step has the mounts any more, and that they are what was filled: a prune gives an id another directory."""

@@ -39,16 +39,23 @@ class Base:
     shell: list[str] | None = None
 
 
+@dataclass(frozen=True)
+class RunBegins:
+    """Where the words of a RUN begin."""
+
+    line: int
+
+
 @dataclass
 class Plan:
-    pieces: list[str | Mount]  # the Dockerfile for the builder, with a hole for each cache mount
+    pieces: list[str | Mount | RunBegins]  # the Dockerfile for the builder, with a hole for each cache mount, and before each RUN's words
     mounts: list[Mount]
     bases: list[str]
     target: str  # the stage that is built, by the name that the builder has for it
 
-    def text(self, word: Callable[[Mount], str]) -> str:
-        """The Dockerfile with the builder's words of its mounts."""
-        return "".join(each if isinstance(each, str) else word(each) for each in self.pieces)
+    def text(self, word: Callable[[Mount], str], first: str = "") -> str:
+        """The Dockerfile with the builder's words of its mounts, and of each RUN the first ones."""
+        return "".join(each if isinstance(each, str) else word(each) if isinstance(each, Mount) else first for each in self.pieces)
 
     def folders(self) -> dict[str, list[Mount]]:
         """The mounts by their folders."""
@@ -132,7 +139,7 @@ class Planner:
         self.given = self.platform | build_args
         self.heading: dict[str, str] = {}
         self.stages: list[Stage] = []
-        self.edits: list[tuple[int, int, list[str | Mount]]] = []
+        self.edits: list[tuple[int, int, list[str | Mount | RunBegins]]] = []
         self.mounts: list[Mount] = []
         self.bases: list[str] = []
 
@@ -311,7 +318,8 @@ class Planner:
 
     def _run(self, stage: Stage, instruction: Instruction) -> None:
         flags, at = flags_of(instruction)
-        words: list[str | Mount] = ["RUN "]
+        begins = RunBegins(instruction.line)
+        words: list[str | Mount | RunBegins] = ["RUN ", begins]
         for flag in flags:
             word = instruction.text[flag.begin : flag.end]
             found = self._mount(stage, instruction, flag)
@@ -324,6 +332,9 @@ class Planner:
             script = script_of(instruction, instruction.text[at:].rstrip())
             words.append(json.dumps([*(stage.shell or ["/bin/sh", "-c"]), script]) + "\n")
             self.edits.append((instruction.begin, instruction.end, words))
+        elif instruction.rest:
+            at = instruction.chars[instruction.rest_at][1]
+            self.edits.append((at, at, [begins]))
 
     def _mount(self, stage: Stage, instruction: Instruction, flag: Flag) -> Mount | str | None:
         """The cache mount of a flag; else its word, where BuildKit isn't to expand that once more; else none."""
@@ -349,8 +360,8 @@ class Planner:
     def _edit(self, instruction: Instruction, begin: int, end: int, word: str | Mount) -> None:
         self.edits.append((instruction.chars[begin][1], instruction.chars[end - 1][1] + 1, [word]))
 
-    def _edited(self) -> list[str | Mount]:
-        pieces: list[str | Mount] = []
+    def _edited(self) -> list[str | Mount | RunBegins]:
+        pieces: list[str | Mount | RunBegins] = []
         at = 0
         for begin, end, words in sorted(self.edits, key=lambda edit: edit[:2]):
             pieces += [self.text[at:begin], *words]

@@ -88,6 +88,8 @@ class Reading(unittest.TestCase):
         text = f"FROM box\nRUN {T},target=/a cat <<EOF\nx\nEOF\nRUN --mount=type=bind,source=$PATH,target=/b true\n"
         made = text.replace("--mount=type=bind,source=$PATH", "--mount=type=bind,source=/bin")
         self.assertEqual(read(planned(text)), made.replace(f"{T},target=/a", "<shared:/a>"))
+        firsts = planned("FROM box\nRUN  --network=none \\\n true\nRUN\\\n true\n").text(str, "<1> ")
+        self.assertEqual(firsts, "FROM box\nRUN  <1> --network=none \\\n true\nRUN\\\n <1> true\n")
         self.assertIn('RUN <shared:/a> ["/bin/sh", "-c", "cat <<EOF\\nx\\nEOF\\n"]\n', read(planned(text, reader=OLD)))
 
     def test_real(self) -> None:

@@ -27,8 +27,8 @@ from agent.trials.docker import BASE, Daemon  # noqa: E402
 
 GAPS = (" ", " ", "  ", "\t", " \\\n ", " \\\n# c\n ", " \\ \n\n  ", " \\\n  # RUN x\n")
 BODIES = (
-    "true", "true && true", ":", 'echo "# no"', "echo 'a \\\\ b'", '["/bin/true"]', "true # --mount=typ=cache,target=/no", "echo \\\n --mount=nothing",
-    "true \\\n && true",
+    "true", "true && true", ":", 'echo "# no"', "echo 'a \\\\ b'", '["/bin/true"]', "true # --mount=typ=cache,target=/no",
+    "echo \\\n --mount=nothing", "true \\\n && true",
 )
 IDS = ("a", "$V", "${W}", "${U:-d}", "x\\y", '"q"', "'s'")
 
@@ -45,7 +45,7 @@ class Writer:
     def mount(self) -> str:
         self.mounts += 1
         target, one = f"/m{self.seed}x{self.mounts}", self.random.choice
-        parts = ["type=cache", one((f"target={target}", f"dst={target}", f"destination={target}", f"target={target}/", f"target={target}/..{target}"))]
+        parts = ["type=cache", one((f"target={target}", f"dst={target}", f"destination={target}/", f"target={target}/..{target}"))]
         parts += [f"sharing={one(('shared', 'locked', 'private'))}"] if self.maybe(0.5) else []
         parts += [one(("ro", "readonly", "rw", "readonly=false"))] if self.maybe(0.3) else []
         parts += [f"id={one(IDS)}{self.mounts}"] if self.maybe(0.4) else []
