@@ -93,6 +93,9 @@ class Buildah:
         """The builder gets no sharing: its own lock of one would wait for itself where a RUN has two mounts of a folder."""
         return f"--mount=type=cache,id={held.id},target={mount.target}" + ("" if mount.writable else ",readonly")
 
+    def first_words(self, options: BuildOptions) -> str:
+        return ""
+
     def still(self, held: Iterable[CacheMount], check: Callable[[], None]) -> None:
         for mount in held:
             lock = f"{mount.path}/{self.LOCK_FILE}"

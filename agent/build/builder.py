@@ -70,6 +70,9 @@ class Builder(Protocol):
     def word(self, mount: Mount, held: CacheMount) -> str:
         """What the Dockerfile has in the place of a mount."""
 
+    def first_words(self, options: BuildOptions) -> str:
+        """What the words of each RUN begin with."""
+
     def command(self, image: Image) -> tuple[list[str], dict[str, str]]:
         """The command that builds, and its environment."""
 

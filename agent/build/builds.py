@@ -218,7 +218,8 @@ class Build:
         self.own = self.builder.enter(image.room, wanted.values(), self._check())
         self.held |= dict(zip(wanted, self.own))
         with open(image.dockerfile, "w", encoding="utf-8", newline="") as file:
-            file.write(plan.text(lambda mount: self.builder.word(mount, self.held[mount.folder])))
+            first = self.builder.first_words(image.options)
+            file.write(plan.text(lambda mount: self.builder.word(mount, self.held[mount.folder]), first))
         command, env = self.builder.command(image)
         return Placed(command, env, {folder: mount.path for folder, mount in self.held.items()})
 
@@ -232,7 +233,7 @@ class Build:
                 self.caller.say(f"image {self.builder.built(image)} is built, and isn't tagged")
             raise
         finally:
-            self.builder.leave(self.own, run.counts)
+            self.builder.leave(self.own, run.counts and run.ended == 0)
             if self.builder is self.builds.builder:
                 for path in run.paths.values():
                     self.builds.agent.places.forget(path)

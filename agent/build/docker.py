@@ -99,8 +99,10 @@ class Docker:
         if os.geteuid():
             raise FarmFault("builds need the farm to run as root")
         if not self.host.startswith(UNIX):
-            raise UsageFault(f"{self.host} may be a daemon of another machine, and its folders aren't here: name one of this machine by DOCKER_HOST=unix://..")
+            raise UsageFault(f"{self.host} may be another machine's daemon, whose folders aren't here: name one of this, DOCKER_HOST=unix://..")
         self._check_daemon()
+        if options.contexts and self.version < WITH_BUILDX:
+            raise UsageFault("--build-context wants Docker 23.0 or newer")
         for name in REFUSED_ARGS:
             if name in build_args:
                 raise BadDockerfile(0, f"the build argument {name} isn't carried out: it changes which cache mounts BuildKit finds")
@@ -128,8 +130,8 @@ class Docker:
         except OSError:
             made.close()
             raise FarmFault(
-                f"another node of this machine builds by the daemon at {self.host}, and each would keep its own copy of every folder there: build on that "
-                "node, or name another daemon, or say --shares-daemon"
+                f"another node of this machine builds by the daemon at {self.host}, and each would keep its own copy of every folder there: "
+                "build on that node, or name another daemon, or say --shares-daemon"
             ) from None
         self.claimed[daemon] = made
 
@@ -155,9 +157,10 @@ class Docker:
         words += ["--target", image.target] if image.target else []
         for key, value in (("network", options.network), ("progress", options.progress), ("platform", options.platform)):
             words += [f"--{key}={value}"] if value else []
-        for flag, is_said in (("--quiet", options.quiet), ("--no-cache", options.no_cache), ("--pull", options.pull)):
-            words += [flag] if is_said else []
-        for key, values in (("secret", options.secrets), ("ssh", options.ssh), ("cache-from", options.cache_from), ("build-context", options.contexts)):
+        words += ["--quiet"] if options.quiet else []
+        words += ["--pull"] if options.pull else []
+        several = (("secret", options.secrets), ("ssh", options.ssh), ("cache-from", options.cache_from), ("build-context", options.contexts))
+        for key, values in several:
             words += [f"--{key}={value}" for value in values]
         if image.ignore_file:
             shutil.copyfile(image.ignore_file, f"{image.dockerfile}.dockerignore")
@@ -210,16 +213,23 @@ class Docker:
         word = f"--mount=type=cache,id={held.id},target={mount.target},sharing={sharing}" + ("" if mount.writable else ",readonly")
         return f"{word} --mount=type=tmpfs,target=/dev/{held.id}"
 
+    def first_words(self, options: BuildOptions) -> str:
+        """What makes each step's key a new one. BuildKit's own `--no-cache` would give cache mounts new directories too."""
+        return f"--mount=type=tmpfs,target=/dev/farm-{secrets.token_hex(16)} " if options.no_cache else ""
+
     def still(self, held: Iterable[CacheMount], check: Callable[[], None]) -> None:
         """That no step has the mounts any more, and that they are what was filled: a prune gives an id another directory."""
         mounts = list(held)
-        end_users([mount.path for mount in mounts])
+        end_users([mount.path for mount in mounts])  # of a SHARED folder: what a killed daemon left of another build
         for mount, path in zip(mounts, self._probe([mount.id for mount in mounts], check)):
             if path != mount.path:
-                raise FarmFault(f"BuildKit dropped the cache mount of {mount.slot} during the build, as a prune does: its steps didn't have the leased folder")
+                raise FarmFault(f"BuildKit dropped the cache mount of {mount.slot} during the build, as a prune does: its steps had another folder")
 
     def leave(self, held: Iterable[CacheMount], ended_well: bool) -> None:
-        for mount in held:
+        mounts = list(held)
+        if mounts and not ended_well:
+            end_users([mount.path for mount in mounts])  # a step outlives its killed daemon
+        for mount in mounts:
             self.ids.leave(mount.slot, mount.id, ended_well)
 
     def _drop_old(self, slots: list[str]) -> None:
@@ -246,7 +256,8 @@ class Docker:
                 os.rename(f"{context}/busybox.new", f"{context}/busybox")
             mounts = [f"--mount=type=cache,id={each},target=/m/{n},sharing=locked,readonly" for n, each in enumerate(ids)]
             script = SCRIPT.format(numbers=" ".join(str(n) for n in range(len(ids))))
-            run = " ".join([f"RUN --mount=type=tmpfs,target=/dev/farm-{secrets.token_hex(16)}", *mounts, json.dumps(["/busybox", "sh", "-c", script])])
+            mounts.append(f"--mount=type=tmpfs,target=/dev/farm-{secrets.token_hex(16)}")
+            run = " ".join(["RUN", *mounts, json.dumps(["/busybox", "sh", "-c", script])])
             with open(f"{room}/Dockerfile", "w") as file:
                 file.write(f"FROM scratch\nCOPY busybox /busybox\n{run}\nFROM scratch\nCOPY --from=0 /told /told\n")
             words = ("build", "--progress", "plain", "--network", "none", "-o", f"type=local,dest={room}/out", "-f", f"{room}/Dockerfile", context)
@@ -265,13 +276,17 @@ def cli() -> str:
     for folder in os.environ.get("PATH", os.defpath).split(os.pathsep):
         path = f"{folder}/docker"
         if os.access(path, os.X_OK):
-            told = re.search(r"version (\d+)\.", subprocess.run([path, "--version"], stdin=subprocess.DEVNULL, capture_output=True, text=True).stdout)
-            if told and int(told[1]) < WITH_BUILDX or not subprocess.run([path, "buildx", "version"], stdin=subprocess.DEVNULL, capture_output=True).returncode:
+            told = re.search(r"version (\d+)\.", _asked(path, "--version").stdout)
+            if told and int(told[1]) < WITH_BUILDX or not _asked(path, "buildx", "version").returncode:
                 return path
             why_not = f"{path} builds by buildx, which isn't installed: apt-get install docker-buildx"
     if why_not:
         raise Missing(why_not)
     return need("docker")
+
+
+def _asked(*words: str) -> subprocess.CompletedProcess[str]:
+    return subprocess.run(words, stdin=subprocess.DEVNULL, capture_output=True, text=True)
 
 
 def syntax_of(text: str) -> bool:

@@ -39,16 +39,23 @@ class Base:
     shell: list[str] | None = None
 
 
+@dataclass(frozen=True)
+class RunBegins:
+    """Where the words of a RUN begin."""
+
+    line: int
+
+
 @dataclass
 class Plan:
-    pieces: list[str | Mount]  # the Dockerfile for the builder, with a hole for each cache mount
+    pieces: list[str | Mount | RunBegins]  # the Dockerfile for the builder, with a hole for each cache mount, and before each RUN's words
     mounts: list[Mount]
     bases: list[str]
     target: str  # the stage that is built, by the name that the builder has for it
 
-    def text(self, word: Callable[[Mount], str]) -> str:
-        """The Dockerfile with the builder's words of its mounts."""
-        return "".join(each if isinstance(each, str) else word(each) for each in self.pieces)
+    def text(self, word: Callable[[Mount], str], first: str = "") -> str:
+        """The Dockerfile with the builder's words of its mounts, and of each RUN the first ones."""
+        return "".join(each if isinstance(each, str) else word(each) if isinstance(each, Mount) else first for each in self.pieces)
 
     def folders(self) -> dict[str, list[Mount]]:
         """The mounts by their folders."""
@@ -132,7 +139,7 @@ class Planner:
         self.given = self.platform | build_args
         self.heading: dict[str, str] = {}
         self.stages: list[Stage] = []
-        self.edits: list[tuple[int, int, list[str | Mount]]] = []
+        self.edits: list[tuple[int, int, list[str | Mount | RunBegins]]] = []
         self.mounts: list[Mount] = []
         self.bases: list[str] = []
 
@@ -212,13 +219,18 @@ class Planner:
             if instruction.keyword == "ONBUILD" and "from=" in instruction.text:
                 names.append("$")
             for flag in flags_of(instruction)[0] if instruction.keyword in ("RUN", "COPY", "ADD") else []:
-                if flag.word.startswith("--mount=") and "$" in flag.word:
-                    names.append("$")
-                elif flag.word.startswith("--mount="):
-                    names += [part.partition("=")[2] for part in flag.word[8:].split(",") if part.strip().lower().startswith("from=")]
+                if flag.word.startswith("--mount="):
+                    names += self._mounted(flag.word.removeprefix("--mount="))
                 elif flag.word.startswith("--from="):
                     names.append(flag.word[7:])
         return names
+
+    def _mounted(self, value: str) -> list[str]:
+        """The names that a mount says it is from. BuildKit expands the value of a key, which stays that key's."""
+        parts = [part.partition("=") for part in value.split(",")]
+        if any("$" in (key if self.reader.is_buildkit else key + text) for key, _, text in parts):
+            return ["$"]
+        return [text for key, _, text in parts if key.strip().lower() == "from"]
 
     def _empty(self, stage: Stage) -> None:
         """A stage that isn't needed keeps its name and place alone."""
@@ -306,7 +318,8 @@ class Planner:
 
     def _run(self, stage: Stage, instruction: Instruction) -> None:
         flags, at = flags_of(instruction)
-        words: list[str | Mount] = ["RUN "]
+        begins = RunBegins(instruction.line)
+        words: list[str | Mount | RunBegins] = ["RUN ", begins]
         for flag in flags:
             word = instruction.text[flag.begin : flag.end]
             found = self._mount(stage, instruction, flag)
@@ -319,6 +332,9 @@ class Planner:
             script = script_of(instruction, instruction.text[at:].rstrip())
             words.append(json.dumps([*(stage.shell or ["/bin/sh", "-c"]), script]) + "\n")
             self.edits.append((instruction.begin, instruction.end, words))
+        elif instruction.rest:
+            at = instruction.chars[instruction.rest_at][1]
+            self.edits.append((at, at, [begins]))
 
     def _mount(self, stage: Stage, instruction: Instruction, flag: Flag) -> Mount | str | None:
         """The cache mount of a flag; else its word, where BuildKit isn't to expand that once more; else none."""
@@ -335,8 +351,8 @@ class Planner:
         mount = mount_of(line, value, self.modes)
         if mount or not (has_variables and self.reader.is_buildkit):
             return mount
-        if any(c.isspace() or c in "\"'\\$" for c in value):
-            raise BadDockerfile(line, f"mount `{value[:200]}`: spaces, quotes and $ within it have no one reading")
+        if value.count(",") != flag.word.count(",") or any(c.isspace() or c in "\"'\\$" for c in value):
+            raise BadDockerfile(line, f"mount `{value[:200]}`: its variables' commas, spaces, quotes and $ have no one reading")
         return f"--mount={value}"
 
     # The text.
@@ -344,8 +360,8 @@ class Planner:
     def _edit(self, instruction: Instruction, begin: int, end: int, word: str | Mount) -> None:
         self.edits.append((instruction.chars[begin][1], instruction.chars[end - 1][1] + 1, [word]))
 
-    def _edited(self) -> list[str | Mount]:
-        pieces: list[str | Mount] = []
+    def _edited(self) -> list[str | Mount | RunBegins]:
+        pieces: list[str | Mount | RunBegins] = []
         at = 0
         for begin, end, words in sorted(self.edits, key=lambda edit: edit[:2]):
             pieces += [self.text[at:begin], *words]

@@ -18,7 +18,8 @@ from agent.service.client import Asked
 from agent.service.requests import BUILD_ENV, BuildOptions, BuildRequest, Built
 
 LOGINS = ("auths", "credsStore", "credHelpers")  # of Docker's config.json
-OWN = "unix:///var/run/docker.sock"
+UNIX = "unix://"
+OWN = f"{UNIX}/var/run/docker.sock"
 OF_DOCKER = ("cache_from", "build_context", "progress")
 
 
@@ -29,6 +30,10 @@ def request_of(args: argparse.Namespace) -> BuildRequest:
     for name in () if is_docker else OF_DOCKER:
         if getattr(args, name):
             raise UsageFault(f"--{name.replace('_', '-')} is Docker's: it goes with --builder docker")
+    if not is_docker and args.network not in (None, "host"):
+        raise UsageFault(f"--network {args.network} is Docker's: buildah's steps have this machine's network")
+    if args.platform and "," in args.platform:
+        raise UsageFault(f"--platform {args.platform}: one lease builds for one platform")
     if is_docker and args.format:
         raise UsageFault("--format is buildah's: the Docker daemon chooses it")
     given = [word.partition("=") for word in args.build_arg]
@@ -97,4 +102,4 @@ def daemon() -> str:
     driver = object_in(f"{home}/buildx/instances/{chosen}").get("Driver", "docker")
     if driver != "docker":
         raise UsageFault(f"the builder {chosen} is of {driver}, and keeps its cache mounts where no farm can fill them: docker buildx use default")
-    return host
+    return UNIX + os.path.realpath(host.removeprefix(UNIX)) if host.startswith(UNIX) else host

@@ -135,6 +135,7 @@ def _look_at_tools(home: str) -> Iterator[Finding]:
 
     for tool, package, use, is_needed in (
         ("casync", "casync", "folders are kept by it", True), ("buildah", "buildah", "farm build needs it", False),
+        ("docker", "docker.io", "farm build --builder docker needs it, with its daemon", False),
         ("redis-server", "redis-server", "a farm of several machines needs one somewhere", False),
     ):
         yield Finding(tool, "" if shutil.which(tool) else f"{use}: apt-get install {package}", is_warning=not is_needed)

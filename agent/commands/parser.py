@@ -164,7 +164,7 @@ def _build_words(verbs: Any) -> None:
     build.add_argument("--node", type=node, metavar="N")
     build.add_argument("-f", "--file", type=path, metavar="Dockerfile")
     build.add_argument("-t", "--tag", action="append", default=[], metavar="NAME")
-    build.add_argument("--builder", choices=["buildah", "docker"], default="buildah", help="docker: the BuildKit of this machine's Docker (%(default)s)")
+    build.add_argument("--builder", choices=["buildah", "docker"], default="buildah", help="docker: BuildKit of this machine's Docker (%(default)s)")
     build.add_argument("--shares-daemon", action="store_true", help="lets several nodes build by one Docker daemon, each with its own copies")
     build.add_argument("--build-arg", action="append", default=[], metavar="K=V")
     build.add_argument("--target", metavar="STAGE")

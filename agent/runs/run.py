@@ -248,9 +248,9 @@ class Run:
             for want in self.leased:
                 if not want.is_shared:
                     agent.places.left(self.paths[want.folder])
-        self._left(tenures)
         if status and not self.job.keeps_failed:
             return status, [], False
+        self._left(tenures)
         kept = [(slot, *self._kept(slot)) for slot in grant.slots if slot.writable]
         files = [(slot.name, held.enter_context(agent.places.rooms.file(index))) for slot, index, _ in kept]
         return status, files, not kept or any(digest != slot.digest for slot, _, digest in kept)

@@ -33,7 +33,9 @@ def read(made: Plan) -> str:
 
 # A Dockerfile, and the ids that its lease wants, where BuildKit reads it otherwise than buildah.
 KIT: dict[str, tuple[str, list[str]]] = {
-    "the last of ENV and ARG": (f"FROM box\nENV V=env\nARG V=arg\nRUN {T},id=$V,target=/a true\nENV V=new\nRUN {T},id=$V,target=/a true\n", ["arg", "new"]),
+    "the last of ENV and ARG": (
+        f"FROM box\nENV V=env\nARG V=arg\nRUN {T},id=$V,target=/a true\nENV V=new\nRUN {T},id=$V,target=/a true\n", ["arg", "new"],
+    ),
     "ARG of a stage before": (f"FROM box AS one\nARG I=up J=arg\nENV J=env\nFROM one\nRUN {T},id=$I$J,target=/a true\n", ["upenv"]),
     "a later stage": (f"FROM box AS a\nFROM box AS last\nCOPY --from=late /x /x\nFROM box AS late\nRUN {T},id=l,target=/a true\nFROM last\n", ["l"]),
     "escape after syntax": (f"# syntax=docker/dockerfile:1\n# escape=`\nFROM box\nRUN {T},id=e,`\ntarget=/a true\n", ["e"]),
@@ -42,6 +44,7 @@ KIT: dict[str, tuple[str, list[str]]] = {
     "other flags": (f"FROM box\nCOPY --link --from=box /x /y\nRUN --network=none --security=sandbox {T},target=/a true\n", ["/a"]),
     "another script": (f"FROM box\nRUN {T},target=/a <<EOF\n#!/bin/sh\ntrue\nEOF\n", ["/a"]),
     "comments": (f"FROM box\n# RUN {T},target=/no true\nRUN true \\\n  # {T}\n  && true\n", []),
+    "a variable in an id": (f"FROM box AS one\nRUN {T},target=/a true\nFROM box\nARG V=v\nRUN {T},id=$V,target=/b true\n", ["v"]),
     "variables elsewhere": ("FROM box\nARG D=/t\nRUN --mount=type=tmpfs,target=$D true\n", []),
     # What BuildKit 0.8 wrote of these was that.
     "odd ids": (
@@ -62,6 +65,7 @@ REFUSED = [
     (f"FROM box AS a\nONBUILD RUN {T},target=/c true\nFROM a\nRUN true\n", NEW, "line 3: a has `ONBUILD RUN .*`: its cache can't be leased"),
     ("FROM box AS a\nONBUILD COPY --from=b /x /x\nFROM a\n", NEW, "line 3: a has `ONBUILD COPY .*`: the stage that it names"),
     (f"FROM box\nARG A=1 B=$A\nRUN {T},id=$B,target=/c true\n", NEW, "variable B"),
+    ("FROM box\nARG Q=a,type=x\nRUN --mount=type=bind,source=$Q,target=/c true\n", NEW, "no one reading"),
     ("FROM box\nARG Q=a\\ b\nRUN --mount=type=bind,source=$Q,target=/c true\n", NEW, "no one reading"),
 ]
 
@@ -84,6 +88,8 @@ class Reading(unittest.TestCase):
         text = f"FROM box\nRUN {T},target=/a cat <<EOF\nx\nEOF\nRUN --mount=type=bind,source=$PATH,target=/b true\n"
         made = text.replace("--mount=type=bind,source=$PATH", "--mount=type=bind,source=/bin")
         self.assertEqual(read(planned(text)), made.replace(f"{T},target=/a", "<shared:/a>"))
+        firsts = planned("FROM box\nRUN  --network=none \\\n true\nRUN\\\n true\n").text(str, "<1> ")
+        self.assertEqual(firsts, "FROM box\nRUN  <1> --network=none \\\n true\nRUN\\\n <1> true\n")
         self.assertIn('RUN <shared:/a> ["/bin/sh", "-c", "cat <<EOF\\nx\\nEOF\\n"]\n', read(planned(text, reader=OLD)))
 
     def test_real(self) -> None:
@@ -105,7 +111,7 @@ class Ids(support.RoomTest):
 
     def test_ids(self) -> None:
         ids = CacheIds(self.path("mounts"))
-        seen = set[str]()
+        seen: set[str] = set()
         for ended_well in (True, True, False, True, None, True):
             taken = ids.take(["locked:a", "locked:b"])
             ids.found(CacheMount("locked:a", taken["locked:a"], f"/d/{len(seen)}"))
@@ -142,15 +148,17 @@ class Refusing(support.FarmTest):
     def test_check(self) -> None:
         builder = self.docker("unix:///x.sock")
         with mock.patch("os.geteuid", return_value=0), mock.patch.object(builder, "_check_daemon"):
-            rows: list[tuple[str, dict[str, str], str]] = [("# syntax=x/y\nFROM box\n", {}, "line 1: syntax=x/y"), ("\ufeff#  Syntax = docker/dockerfile:2\n", {}, "docker/dockerfile:2"),
-                    ("FROM box\n", {"BUILDKIT_CACHE_MOUNT_NS": "x"}, "BUILDKIT_CACHE_MOUNT_NS isn't carried out"),
-                    ("FROM box\n", {"BUILDKIT_SYNTAX": "x"}, "BUILDKIT_SYNTAX"), ("# x\n//syntax=docker/dockerfile-upstream:1\n", {}, "line 2")]
+            rows: list[tuple[str, dict[str, str], str]] = [
+                ("# syntax=x/y\nFROM box\n", {}, "line 1: syntax=x/y"), ("\ufeff#  Syntax = docker/dockerfile:2\n", {}, "docker/dockerfile:2"),
+                ("FROM box\n", {"BUILDKIT_CACHE_MOUNT_NS": "x"}, "BUILDKIT_CACHE_MOUNT_NS isn't carried out"),
+                ("FROM box\n", {"BUILDKIT_SYNTAX": "x"}, "BUILDKIT_SYNTAX"), ("# x\n//syntax=docker/dockerfile-upstream:1\n", {}, "line 2"),
+            ]
             for text, args, why in rows:
                 with self.subTest(text), self.assertRaisesRegex(BadDockerfile, why):
                     builder.check(text, args, BuildOptions())
             for text in ("FROM box\n# syntax=x\n", "# syntax=docker/dockerfile:1.4\nFROM box\n", "# syntax=docker/dockerfile:1-labs\n", "#x\n"):
                 self.assertEqual(builder.check(text, {}, BuildOptions()), Reader(True, "syntax=docker" in text), text)
-            with self.assertRaisesRegex(UsageFault, "tcp://10.0.0.1:2375 may be a daemon of another machine"):
+            with self.assertRaisesRegex(UsageFault, "tcp://10.0.0.1:2375 may be another machine's daemon"):
                 self.docker("tcp://10.0.0.1:2375").check("", {}, BuildOptions())
 
     def test_words(self) -> None:
@@ -170,8 +178,10 @@ class Refusing(support.FarmTest):
         said = self.asked("build", "--builder", "docker", self.path("context"), status=70)
         self.assertIn(f"no Docker daemon answers at unix://{self.room}/no.sock: No such file", said)
         self.assertNotIn("ticket", said)
-        for row, status in ((["--cache-from", "x"], 64), (["--builder", "docker", "--format", "oci"], 64), (["--push"], 64)):
-            self.assertRegex(self.asked("build", *row, self.path("context"), status=status), "goes with|buildah's|wants the name")
+        rows = [(["--cache-from", "x"], "goes with"), (["--builder", "docker", "--format", "oci"], "buildah's"), (["--push"], "wants the name"),
+                (["--network", "none"], "this machine's network"), (["--platform", "a/b,c/d"], "one platform")]
+        for row, why in rows:
+            self.assertIn(why, self.asked("build", *row, self.path("context"), status=64))
 
     def test_daemon(self) -> None:
         """The daemon is the one that `docker build` would ask; a builder with a BuildKit of its own is refused."""
@@ -179,7 +189,10 @@ class Refusing(support.FarmTest):
         name = "2c26b46b68ffc68ff99b453c1d30413413422d706483bfa0f98a5e886266e7ae"  # the digest of `foo`
         self.write(f"config/contexts/meta/{name}/meta.json", '{"Name": "foo", "Endpoints": {"docker": {"Host": "unix:///foo.sock"}}}')
         self.write("config/buildx/instances/own", '{"Name": "own", "Driver": "docker-container"}')
-        rows: list[tuple[dict[str, str], str]] = [({}, words.OWN), ({"DOCKER_CONTEXT": "foo"}, "unix:///foo.sock"), ({"DOCKER_HOST": "unix:///a", "DOCKER_CONTEXT": "foo"}, "unix:///a")]
+        rows: list[tuple[dict[str, str], str]] = [
+            ({}, f"unix://{os.path.realpath('/var/run/docker.sock')}"), ({"DOCKER_CONTEXT": "foo"}, "unix:///foo.sock"),
+            ({"DOCKER_HOST": "unix:///a", "DOCKER_CONTEXT": "foo"}, "unix:///a"),
+        ]
         for env, wanted in rows:
             with mock.patch.dict(os.environ, {"DOCKER_CONFIG": home} | env, clear=True):
                 self.assertEqual(words.daemon(), wanted)

@@ -137,14 +137,13 @@ class Trial:
             up.terminate()
             up.communicate()
 
-    def begin(self, node: int, text: str, *words: str) -> subprocess.Popen[str]:
+    def begin(self, node: int, text: str, *words: str, host: str | None = None) -> subprocess.Popen[str]:
         with tempfile.NamedTemporaryFile("w", dir=self.context, prefix="Dockerfile", delete=False) as file:
             file.write(text)
-        env = os.environ | {"DOCKER_HOST": self.daemons[node - 1].host}
+        env = os.environ | {"DOCKER_HOST": host or self.daemons[node - 1].host}
         call = [*PYTHON_FARM, "build", "--home", self.home, "--node", str(node), "--builder", "docker", "--network", "none", "--progress", "plain"]
-        return subprocess.Popen(
-            [*call, "-f", file.name, *words, self.context], env=env, stdin=subprocess.DEVNULL, stdout=subprocess.PIPE, stderr=subprocess.STDOUT, text=True
-        )
+        call += ["-f", file.name, *words, self.context]
+        return subprocess.Popen(call, env=env, stdin=subprocess.DEVNULL, stdout=subprocess.PIPE, stderr=subprocess.STDOUT, text=True)
 
     def build(self, node: int, text: str, *words: str, status: int = 0) -> str:
         process = self.begin(node, text, *words)
@@ -172,14 +171,16 @@ class Trial:
         again = self.build(1, COUNT, "--build-arg", "LINE=turn4", "-t", "app")
         expect(re.search(r"(?m)^#\d+ CACHED$", again.partition("RUN")[2]) and "there is no new version" in again, again[-1500:])
         expect(self.versions("locked:lines") == 4, "a CACHED build made a version")
+        self.build(2, COUNT, "--build-arg", "LINE=turn4", "--no-cache")
         for turn in "ab":
             both = [self.begin(node, COUNT, "--build-arg", f"LINE={turn}{node}") for node in (1, 2)]
             for process in both:
                 said = process.communicate(timeout=PATIENCE)[0]
                 expect(process.returncode == 0, said[-1500:])
         lines = self.got("locked:lines")["f"].split()
-        expect(lines[:4] == ["turn1", "turn2", "turn3", "turn4"] and sorted(lines[4:]) == ["a1", "a2", "b1", "b2"], f"it counted {lines}")
-        return "9 builds on two daemons, 8 versions, each with one line more, and a CACHED one without"
+        front = ["turn1", "turn2", "turn3", "turn4", "turn4"]
+        expect(lines[:5] == front and sorted(lines[5:]) == ["a1", "a2", "b1", "b2"], f"it counted {lines}")
+        return "10 builds on two daemons, 9 versions, each with one line more, and a CACHED one without"
 
     def mended(self) -> str:
         """The steps that ended before a build failed are run again: what they wrote isn't there."""
@@ -189,6 +190,23 @@ class Trial:
         self.build(1, bad.format("cat /c/fetched"))
         expect(self.got("locked:mend") == {"fetched": "it\n"}, "what the mended build left isn't there")
         return "a failed build mended"
+
+    def pruned(self) -> str:
+        """BuildKit drops a mount between two steps, and the second one has another directory. And the daemon is one node's."""
+        text = f"FROM farm-trial\nRUN {MOUNT},id=prune touch /c/begun\nRUN sleep 6\nRUN {MOUNT},id=prune ls /c\n"
+        build, end = self.begin(1, text), time.monotonic() + PATIENCE
+        while not os.path.exists(f"{self.known('locked:prune')['path']}/begun"):
+            expect(time.monotonic() < end and build.poll() is None, "the step doesn't begin")
+            time.sleep(0.1)
+        time.sleep(1.0)
+        self.daemons[0].call("builder", "prune", "--force", "--all")
+        said = build.communicate(timeout=PATIENCE)[0]
+        expect("BuildKit dropped the cache mount of locked:prune" in said, said[-1500:])
+        expect(build.returncode == 70 and self.versions("locked:prune") == 0, f"{build.returncode}, of a mount that was pruned")
+        other = self.begin(2, COUNT, host=self.daemons[0].host)
+        said = other.communicate(timeout=PATIENCE)[0]
+        expect(other.returncode == 70 and "another node of this machine builds by the daemon" in said, said[-1500:])
+        return "a pruned mount, and another node's daemon, refused"
 
     def shared(self) -> str:
         """Two builds of one node have one directory at once."""
@@ -264,7 +282,7 @@ def main() -> int:
                 if keeps_ids:
                     said = [found(trial.zombie), found(trial.mended)]
                 else:
-                    said = [trial.counts(), trial.mended(), trial.shared(), trial.zombie()]
+                    said = [trial.counts(), trial.mended(), trial.pruned(), trial.shared(), trial.zombie()]
             if not keeps_ids:
                 with trial.farm(list(PYTHON_FARM)):
                     said.append(trial.ended())
