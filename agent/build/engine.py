@@ -16,6 +16,7 @@ from urllib.parse import quote
 from agent.faults import FarmFault
 
 UNIX = "unix://"
+SHORTEST = 20  # characters of what the kernel calls a mount's root, if it is a directory of BuildKit's
 
 
 class _Link(http.client.HTTPConnection):
@@ -84,17 +85,17 @@ def host_path(mark: str, root: str, device: int, number: int) -> str:
 
 
 def users_of(paths: list[str]) -> Iterator[int]:
-    """The processes of build steps that have one of these directories mounted."""
-    own = os.readlink("/proc/self/ns/mnt")
+    """The processes that have one of these directories mounted in a mount namespace of their own, as build steps do."""
+    has: dict[str, bool] = {os.readlink("/proc/self/ns/mnt"): False}
     for name in filter(str.isdigit, os.listdir("/proc")):
         with contextlib.suppress(OSError):
-            with open(f"/proc/{name}/cgroup") as file:
-                is_step = "/buildkit/" in file.read()
-            if is_step and os.readlink(f"/proc/{name}/ns/mnt") != own:
+            space = os.readlink(f"/proc/{name}/ns/mnt")
+            if space not in has:
                 with open(f"/proc/{name}/mountinfo") as file:
                     roots = [row.split(" ")[3] for row in file]
-                if any(len(root) > 20 and path.endswith(root) for root in roots for path in paths):
-                    yield int(name)
+                has[space] = any(len(root) > SHORTEST and path.endswith(root) for root in roots for path in paths)
+            if has[space]:
+                yield int(name)
 
 
 def end_users(paths: list[str]) -> None:
