@@ -28,7 +28,7 @@ from agent.words import Want, short_name
 
 IMAGE = "docker-image://"
 
-OF_SHARED = "One node at a time has a shared folder: --shared-as locked or private treats such mounts otherwise"
+OF_SHARED = "One node at a time has a shared folder: --shared-as merged, locked or private treats such mounts otherwise"
 
 
 class Refused(FarmFault):
@@ -199,7 +199,7 @@ class Build:
             wants=[Want(folder, "", folder.startswith("shared:") or any(m.writable for m in mounts)) for folder, mounts in folders.items()],
             place=lambda slots, tenures: self._placed(plan, image, slots, tenures), home=self.builder if is_docker else None,
             skips_unchanged=is_docker, fenced_status=FENCED_BUILD, lost_status=LOST, of_shared=OF_SHARED, filled=filled, left=left,
-            on_conflict=asked.on_conflict, tells_conflicts=asked.tells_conflicts,
+            on_conflict=asked.on_conflict, tells_conflicts=asked.tells_conflicts, is_warm=asked.is_warm,
         )
         return self._settled(job, image)
 

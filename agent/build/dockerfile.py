@@ -10,10 +10,10 @@ import json
 import os
 import re
 from dataclasses import dataclass, field
-from typing import Callable
+from typing import Callable, Iterable
 
 from agent.build.dockertext import BadDockerfile, Flag, Instruction, Unknown, expanded, flags_of, instructions, pairs_of, raw_words
-from agent.build.mounts import Mount, mount_of
+from agent.build.mounts import Mount, modes_of, mount_of
 from agent.words import MOST_FOLDERS
 
 
@@ -131,8 +131,8 @@ def expand(line: int, word: str, values: dict[str, str], what: str, quotes: bool
 class Planner:
     """Goes over one Dockerfile."""
 
-    def __init__(self, text: str, build_args: dict[str, str], base_of: Callable[[str], Base], shared_as: str, reader: Reader) -> None:
-        self.text, self.base_of, self.shared_as, self.reader = text, base_of, shared_as, reader
+    def __init__(self, text: str, build_args: dict[str, str], base_of: Callable[[str], Base], shared_as: Iterable[str], reader: Reader) -> None:
+        self.text, self.base_of, self.modes, self.reader = text, base_of, modes_of(shared_as), reader
         arch = {"x86_64": "amd64", "aarch64": "arm64"}.get(os.uname().machine, os.uname().machine)
         own = platform_of("BUILD", f"linux/{arch}")
         self.platform = platform_of("TARGET", reader.platform or f"linux/{arch}") | own
@@ -348,7 +348,7 @@ class Planner:
         has_variables = "$" in value
         if has_variables:
             value = expand(line, value, stage.values(self.reader), "mount", False)
-        mount = mount_of(line, value, self.shared_as)
+        mount = mount_of(line, value, self.modes)
         if mount or not (has_variables and self.reader.is_buildkit):
             return mount
         if value.count(",") != flag.word.count(",") or any(c.isspace() or c in "\"'\\$" for c in value):
@@ -408,7 +408,7 @@ def script_of(instruction: Instruction, rest: str) -> str:
 
 
 def plan(
-    text: str, build_args: dict[str, str], target: str | None, base_of: Callable[[str], Base], shared_as: str = "shared", reader: Reader = BUILDAH
+    text: str, build_args: dict[str, str], target: str | None, base_of: Callable[[str], Base], shared_as: Iterable[str] = (), reader: Reader = BUILDAH
 ) -> Plan:
     """What a Dockerfile wants, and what the builder gets to read."""
     return Planner(text, build_args, base_of, shared_as, reader).plan(target)

@@ -7,6 +7,7 @@ from __future__ import annotations
 import posixpath
 import re
 from dataclasses import dataclass
+from typing import Iterable, Mapping
 
 from agent.build.dockertext import BadDockerfile
 from agent.words import SHARINGS, folder_text
@@ -69,8 +70,13 @@ class _Parts:
         return value not in ("false", "0")
 
 
-def mount_of(line: int, word: str, shared_as: str) -> Mount | None:
-    """The cache mount that a `--mount=` word says; none where it is of another type."""
+def modes_of(words: Iterable[str]) -> dict[str, str]:
+    """What each id's SHARED mounts are treated as, and under "" all others: of words `MODE` and `ID=MODE`."""
+    return {"": "shared"} | {identifier: mode for identifier, _, mode in (word.rpartition("=") for word in words)}
+
+
+def mount_of(line: int, word: str, modes: Mapping[str, str]) -> Mount | None:
+    """The cache mount that a `--mount=` word says; none where it is of another type. What SHARED ones are treated as `modes` says."""
     parts = _Parts(line, word)
     if (parts.take("type") or "bind").lower() != "cache":
         return None
@@ -89,7 +95,7 @@ def mount_of(line: int, word: str, shared_as: str) -> Mount | None:
     identifier = parts.take("id") or target
     if parts.values:
         raise parts.refuse(f"{', '.join(sorted(parts.values))}: no key of a cache mount that is carried out")
-    return Mount(line, identifier, shared_as if sharing == "shared" else sharing, target, writable, uid, gid, mode)
+    return Mount(line, identifier, modes.get(identifier, modes[""]) if sharing == "shared" else sharing, target, writable, uid, gid, mode)
 
 
 def _target(parts: _Parts) -> str:

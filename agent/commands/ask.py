@@ -13,10 +13,10 @@ import time
 from typing import TYPE_CHECKING
 
 from agent.commands.run import node_sockets
-from agent.faults import FAULT, FarmFault, UsageFault, show
+from agent.faults import FAULT, FarmFault, UsageFault, show, tell
 from agent.service import client
 from agent.service.carried import plain
-from agent.service.operators import LogRequest, PruneRequest, RetireRequest, Status, StatusRequest, Versions, WithdrawRequest
+from agent.service.operators import LogRequest, LostRequest, PruneRequest, RetireRequest, Status, StatusRequest, Versions, WithdrawRequest
 from agent.service.requests import Digests, ForgetRequest, Forgotten, NeededRequest, StorePlace, StoreRequest
 from agent.words import version_of
 
@@ -74,20 +74,27 @@ def do_web(args: argparse.Namespace) -> int:
 
 
 def do_log(args: argparse.Namespace) -> int:
-    told = client.told_at(coordinator_of(args), LogRequest(folder=args.folder), Versions)
+    if not args.lost and not args.folder:
+        raise UsageFault("farm log wants a folder, as farm log locked:ccache")
+    told = client.told_at(coordinator_of(args), log_of(args, args.folder), Versions)
     for slot, versions in told.slots.items():
         for version in versions:
-            show(f"{slot} version {version.version} ticket {version.ticket} {version.digest}{version.note and ' '}{version.note}")
-    if not told.slots:
+            how = "lost" if args.lost else f"ticket {version.ticket}"
+            show(f"{slot} version {version.version} {how} {version.digest}{version.note and ' '}{version.note}")
+    if not told.slots and not args.lost:
         raise FarmFault(f"{args.folder} has no version")
     return 0
+
+
+def log_of(args: argparse.Namespace, folder: str | None) -> LogRequest | LostRequest:
+    return LostRequest(folder=folder) if args.lost else LogRequest(folder=folder or "")
 
 
 def do_get(args: argparse.Namespace) -> int:
     from agent.folders import trees
 
     folder, number = version_of(args.folder)
-    told = client.told_at(coordinator_of(args), LogRequest(folder=folder), Versions).slots
+    told = client.told_at(coordinator_of(args), log_of(args, folder), Versions).slots
     if len(told) != 1:
         raise FarmFault(f"{folder} has no version" if not told else f"name one of {', '.join(told)}")
     versions = next(iter(told.values()))
@@ -119,7 +126,7 @@ def do_withdraw(args: argparse.Namespace) -> int:
 
 
 def do_retire(args: argparse.Namespace) -> int:
-    return operate(args, RetireRequest(node=args.node, is_gone=args.gone))
+    return operate(args, RetireRequest(node=args.node, is_gone=args.gone, is_last_too=args.yes))
 
 
 def do_prune(args: argparse.Namespace) -> int:
@@ -136,20 +143,36 @@ def do_gc(args: argparse.Namespace) -> int:
     nodes = list(node_sockets(args.home))
     is_coordinators = client.is_there(coordinator_of(args)) or not nodes
     path = coordinator_of(args) if is_coordinators else nodes[0]
-    kept, begun = client.told_at(path, StoreRequest(), StorePlace), time.time()
-    needed = client.told_at(path, NeededRequest(keep=args.keep), Digests).digests
+    kept, begun = client.told_at(path, StoreRequest(), StorePlace), time.monotonic()
+
+    def needed() -> set[str]:
+        return set(client.told_at(path, NeededRequest(keep=args.keep), Digests).digests)
 
     def grace() -> float:
-        return float(args.grace + time.time() - begun)
+        return float(args.grace + time.monotonic() - begun)
 
-    contents = sum(client.told_at(node, ForgetRequest(needed=needed, grace=grace()), Forgotten).contents for node in nodes)
-    store = store_at(args.home, kept)
+    forgets = ForgetRequest(needed=tuple(sorted(needed())), grace=grace())
+    contents = sum(client.told_at(node, forgets, Forgotten).contents for node in nodes)
+    store, unreadable = store_at(args.home, kept), set[str]()
     if is_coordinators and isinstance(store, RedisStore):
-        indexes, chunks = store.forget(set(needed), grace())
+        indexes, chunks = store.forget(needed, grace(), unreadable.add)
         show(f"Redis forgot {indexes} indexes and {chunks} chunks")
     folder = store.folder if isinstance(store, RedisStore) else store
     assert isinstance(folder, FolderStore)
     is_ours = is_coordinators or not kept.contents  # a folder that all see is the coordinator's business
-    indexes, chunks = folder.forget(set(needed), grace()) if is_ours else (0, 0)
+    is_known = folder is store  # of what Redis has a machine's own folder need not have all
+    indexes, chunks = folder.forget(needed, grace(), unreadable.add if is_known else lambda digest: None) if is_ours else (0, 0)
     show(f"forgot {contents} contents of nodes, {indexes} indexes and {chunks} chunks")
-    return 0
+    return _tell_unreadable(path, args.keep, unreadable) if is_coordinators else 0
+
+
+def _tell_unreadable(path: str, keep: int, digests: set[str]) -> int:
+    """Names the versions that gc couldn't read. The status is that of a fault, where there are any."""
+    folders = client.told_at(path, StatusRequest(last=keep), Status).folders if digests else ()
+    for digest in sorted(digests):
+        names = [f"{each.slot} version {version.version}" for each in folders for version in each.versions if version.digest == digest]
+        tell(
+            f"the content {digest} of {', '.join(names) or 'a live lease'} can't be read, so no chunk that may be its own is forgotten: run a command on "
+            "that folder, which asks the other nodes for it, or farm prune it"
+        )
+    return FAULT if digests else 0

@@ -40,8 +40,9 @@ def request_of(args: argparse.Namespace) -> BuildRequest:
     return BuildRequest(
         cwd=own_folder(), context=os.path.abspath(args.context), file=args.file, tags=tuple(args.tag), push=args.push, target=args.target,
         build_args={key: value if equals else os.environ[key] for key, equals, value in given if equals or key in os.environ},
-        format=args.format, wait=args.wait, stops_when_lost=args.on_lost == "stop", shared_as=args.shared_as,
-        keep_failed=args.keep_failed, tag_fenced=args.tag_fenced, env=passed_on(args), on_conflict=args.on_conflict, tells_conflicts=args.verbose,
+        format=args.format, wait=args.wait, stops_when_lost=args.on_lost == "stop", shared_as=tuple(args.shared_as),
+        keep_failed=args.keep_failed, tag_fenced=args.tag_fenced, env=passed_on(args),
+        on_conflict=args.on_conflict, tells_conflicts=args.verbose, is_warm=args.warm,
         builder=args.builder, daemon=daemon() if is_docker else "", shares_daemon=args.shares_daemon,
         options=BuildOptions(
             network=args.network, progress=args.progress, platform=args.platform, quiet=args.quiet, no_cache=args.no_cache, pull=args.pull,

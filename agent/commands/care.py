@@ -5,6 +5,7 @@ Owes the filters nothing: a folder is seeded under a lease as any command's.
 from __future__ import annotations
 
 import argparse
+import contextlib
 import os
 import shutil
 import tempfile
@@ -37,6 +38,75 @@ def do_put(args: argparse.Namespace) -> int:
         ))
     finally:
         shutil.rmtree(room, ignore_errors=True)
+
+
+KEPT = ("key", "record", "record.log", "known", "lost")  # of a coordinator's home: without these the farm can't go on as it was
+TRIES = 100  # to read the record and its log together
+
+
+def do_backup(args: argparse.Namespace) -> int:
+    """Copies a coordinator's key, record and log into a file, also while it runs. The copy was read back."""
+    import io
+    import tarfile
+
+    kept = _together(args.home)
+    if b"" in (kept.get("key", b""), kept.get("record", b"") + kept.get("record.log", b"")):
+        raise UsageFault(f"{args.home} has no record: name the --home of the farm's coordinator")
+    _check_kept(kept)
+    path = os.path.abspath(args.to)
+    handle, beside = tempfile.mkstemp(prefix=".farm-backup-", dir=os.path.dirname(path))  # its mode is 0600: it has the farm's key
+    try:
+        with os.fdopen(handle, "wb") as file:
+            with tarfile.open(fileobj=file, mode="w") as archive:
+                for name, data in kept.items():
+                    member = tarfile.TarInfo(name)
+                    member.size, member.mode, member.mtime = len(data), 0o600, int(time.time())
+                    archive.addfile(member, io.BytesIO(data))
+            file.flush()
+            os.fsync(file.fileno())
+        os.rename(beside, path)
+    except BaseException:
+        os.unlink(beside)
+        raise
+    show(f"{path} has {', '.join(kept)}: it holds the farm's key, so keep it as closed as that")
+    return 0
+
+
+def _together(home: str) -> dict[str, bytes]:
+    """The files of a home that belong together: no new record was begun while they were read."""
+    for _ in range(TRIES):
+        before, kept = _record_of(home), dict[str, bytes]()
+        for name in KEPT:
+            with contextlib.suppress(FileNotFoundError), open(f"{home}/{name}", "rb") as file:
+                kept[name] = file.read()
+        if before == _record_of(home):
+            return kept
+    raise FarmFault(f"the record of {home} was written anew again and again")
+
+
+def _record_of(home: str) -> tuple[int, ...]:
+    """Which files the record and its log are. The log only grows, until a new record is begun."""
+    found = list[int]()
+    for name in ("record", "record.log"):
+        with contextlib.suppress(FileNotFoundError):
+            here = os.lstat(f"{home}/{name}")
+            found += [here.st_ino, here.st_mtime_ns if name == "record" else 0]
+    return tuple(found)
+
+
+def _check_kept(kept: dict[str, bytes]) -> None:
+    """Reads a record back."""
+    from agent.filters.lines import Filter, FilterGone
+    from agent.tools import farm_program
+
+    with tempfile.TemporaryDirectory(prefix="farm-backup-") as room:
+        for name, data in kept.items():
+            with open(f"{room}/{name}", "wb") as file:
+                file.write(data)
+        try:
+            Filter([farm_program(), "coordinator", "--record", f"{room}/record", "--key", f"{room}/key"]).close()
+        except FilterGone as gone:
+            raise FarmFault(f"the record couldn't be read back, and nothing is kept: {gone.said}") from None
 
 
 class Finding(NamedTuple):

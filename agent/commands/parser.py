@@ -12,6 +12,7 @@ from typing import Any, Callable
 from agent.faults import FarmFault, show
 from agent.commands.run import SERVED, do_build, do_run
 from agent.commands.serve import do_coordinator, do_node, do_up
+from agent.words import USES
 
 ENDS = """statuses: the command's or builder's own; 64 wrong words; 65 a Dockerfile that can't be built under leases; 69 a program is missing;
 70 a fault; 75 the lease wasn't granted in time, or what was left doesn't count; 76 a build whose lease had ended"""
@@ -75,6 +76,13 @@ def ticket(text: str) -> int:
     return int(text)
 
 
+def shared_as(text: str) -> str:
+    """`[ID=]MODE`."""
+    if text.rpartition("=")[2] not in USES:
+        raise argparse.ArgumentTypeError(f"a mode is one of {', '.join(USES)}, and not {text!r}")
+    return text
+
+
 def path(text: str) -> str:
     """A path that is named: an empty one, as of a variable that isn't set, would be the folder that this is called in."""
     if not text:
@@ -115,6 +123,9 @@ def _serving_words(verbs: Any) -> None:
         made.add_argument("--verbose", action="store_true", help="says what the filters answer")
     for made in (up, coordinator):
         made.add_argument(
+            "--restored", action="store_true", help="vouches for a record that is older than the farm: begins a new generation, with a new key"
+        )
+        made.add_argument(
             "--lease-timeout", type=seconds, metavar="SECONDS", help="withdraws the leases of a node that wasn't heard for so long"
         )
     for made in (coordinator, one):
@@ -125,7 +136,7 @@ def _serving_words(verbs: Any) -> None:
 def _run_words(verbs: Any) -> None:
     run = _verb(
         verbs, "run", do_run, "runs a command with its folders leased",
-        "farm run --folder locked:ccache=/tmp/ccache -- make CCACHE_DIR=/tmp/ccache CC='ccache gcc'",
+        "farm run --folder locked:ccache=$HOME/ccache -- make CCACHE_DIR=$HOME/ccache CC='ccache gcc'",
     )
     run.usage = "farm run [OPTION].. [--folder [ro=]FOLDER=PATH].. [--] COMMAND.."
     run.add_argument("--node", type=node, metavar="N", help="the node that runs it (the first one here that isn't retired)")
@@ -143,6 +154,7 @@ def _merged_words(made: argparse.ArgumentParser) -> None:
         help="whose a path of a merged folder is that others changed meanwhile too (%(default)s); fail: nothing counts, and the status is 75",
     )
     made.add_argument("--verbose", action="store_true", help="tells each such path")
+    made.add_argument("--warm", action="store_true", help="a new private folder begins as the last version of any of its name")
 
 
 def _build_words(verbs: Any) -> None:
@@ -167,7 +179,7 @@ def _build_words(verbs: Any) -> None:
         build.add_argument(name, action="append", default=[], help="as of docker build")
     build.add_argument("--wait", type=seconds, metavar="SECONDS")
     build.add_argument("--on-lost", choices=["stop", "go-on"], default="go-on")
-    build.add_argument("--shared-as", choices=["shared", "locked", "private", "merged"], default="shared", help="treats shared mounts so")
+    build.add_argument("--shared-as", type=shared_as, action="append", default=[], metavar="[ID=]MODE", help="treats shared mounts so, or those of one id")
     build.add_argument("--keep-failed", action="store_true", help="commits also what a failed build left")
     build.add_argument("--tag-fenced", action="store_true", help="tags the image also where the lease had ended")
     _merged_words(build)
@@ -181,21 +193,28 @@ def _asking_words(verbs: Any) -> None:
     web.add_argument("--port", type=int, required=True)
     web.add_argument("--address", default="127.0.0.1", help="the address that it listens at (%(default)s): who reaches it may read all")
     log = _verb(verbs, "log", _asks("do_log"), "the versions of a folder", "farm log locked:ccache")
-    log.add_argument("folder")
-    get = _verb(verbs, "get", _asks("do_get"), "what a version holds, without a lease", "farm get locked:ccache@3 /tmp/third")
+    log.add_argument("folder", nargs="?")
+    log.add_argument("--lost", action="store_true", help="what generations before this one had beyond the record")
+    get = _verb(verbs, "get", _asks("do_get"), "what a version holds, without a lease", "farm get locked:ccache@3 third")
     get.add_argument("folder", metavar="FOLDER[@NUMBER]")
+    get.add_argument("--lost", action="store_true", help="of what farm log --lost shows")
     get.add_argument("to", type=path, metavar="DIR", help="a folder, or - for a tar on the standard output")
     withdraw = _verb(verbs, "withdraw", _asks("do_withdraw"), "ends a lease: its holder's commit won't count", "farm withdraw 17")
     withdraw.add_argument("ticket", type=ticket, metavar="T")
     retire = _verb(verbs, "retire", _asks("do_retire"), "ends a node for good", "farm retire 3")
     retire.add_argument("node", type=node, metavar="N")
     retire.add_argument("--gone", action="store_true", help="the node is gone for good: you vouch that all it ran is over")
+    retire.add_argument("--yes", action="store_true", help="also where no other node is left")
     put = _verb(verbs, "put", _asks("do_put", "care"), "makes a folder's next version what DIR holds", "farm put locked:ccache ~/.ccache")
     put.add_argument("folder")
     put.add_argument("source", type=path, metavar="DIR")
     put.add_argument("--node", type=node, metavar="N")
     put.add_argument("--wait", type=seconds, metavar="SECONDS")
     _verb(verbs, "doctor", _asks("do_doctor", "care"), "says what of this machine and its farm isn't well, and how to mend it", "farm doctor")
+    backup = _verb(
+        verbs, "backup", _asks("do_backup", "care"), "copies the coordinator's key and record into a file, while it runs", "farm backup farm.tar"
+    )
+    backup.add_argument("to", metavar="FILE")
     prune = _verb(verbs, "prune", _asks("do_prune"), "makes a folder's next version the empty one", "farm prune locked:ccache")
     prune.add_argument("folder")
     gc = _verb(verbs, "gc", _asks("do_gc"), "forgets what nothing needs, on this machine", "farm gc --keep 3")

@@ -76,6 +76,8 @@ def start_for(home: str, node: int | None) -> None:
     if os.path.exists(f"{home}/served"):
         raise FarmFault(f"the farm of {home} was killed: farm up starts it again, or remove {home}/served")
     client.check_home(home)
+    if os.environ.get("FARM_BROKER") and not os.path.exists(home):
+        raise UsageFault(f"FARM_BROKER names a farm of several machines, and {home} isn't there: name the --home of a node, or unset FARM_BROKER")
     os.makedirs(home, mode=0o700, exist_ok=True)
     with open(f"{home}/starting", "w") as lock:
         fcntl.flock(lock, fcntl.LOCK_EX)
@@ -145,7 +147,7 @@ def do_run(args: argparse.Namespace) -> int:
     return ask_node(args.home, args.node, RunRequest(
         command=tuple(command), folders=tuple(args.folder), cwd=own_folder(), env=own_environment(), umask=own_umask(),
         wait=args.wait, must_commit=args.must_commit, stops_when_lost=args.on_lost == "stop",
-        on_conflict=args.on_conflict, tells_conflicts=args.verbose,
+        on_conflict=args.on_conflict, tells_conflicts=args.verbose, is_warm=args.warm,
     ))
 
 

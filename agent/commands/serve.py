@@ -16,6 +16,7 @@ def _serve(args: argparse.Namespace, coordinator: bool, nodes: list[int]) -> int
         home=args.home, coordinator=coordinator, nodes=tuple(nodes), most=args.nodes, broker=getattr(args, "broker", None),
         contents=args.contents, lease_timeout=getattr(args, "lease_timeout", None), verbose=args.verbose,
         while_used=getattr(args, "while_used", False), group=args.group,
+        restored=getattr(args, "restored", False),
     ))
 
 

@@ -17,6 +17,7 @@ from agent.filters.lines import Answer, Filter, FilterGone, Talk, line_of
 from agent.transport.needs import parts
 from agent.filters.node import HEARTBEAT, Setup
 from agent.filters.snapshots import Merges, Snapshots
+from agent.filters.watch import Watch
 from agent.transport.local import COORDINATOR, address_of, node_address
 from agent.service.operators import FolderStatus, Lease, Status, Version, Waiting
 from agent.words import DIGEST, EMPTY, is_folder
@@ -34,9 +35,10 @@ REFUSALS = {  # what people are told beside the name of one
 
 
 class CoordinatorAgent:
-    def __init__(self, setup: Setup, lease_timeout: float | None = None) -> None:
-        self.setup, self.lease_timeout = setup, lease_timeout
+    def __init__(self, setup: Setup, lease_timeout: float | None = None, nodes: int = 0, has_broker: bool = False) -> None:
+        self.setup, self.lease_timeout, self.nodes = setup, lease_timeout, nodes
         self.hints = Hints(setup.key)
+        # The thread that hears lines changes these, others read single values: `heard`, `spoke`, `left`, `looked`. `lock` has `since` and `last`.
         self.since: dict[int, float] = {}  # of a ticket: when this agent saw it granted
         self.heard: dict[int, float] = {}  # of a node: the time of day at which it was heard
         self.spoke: dict[int, float] = {}  # of a node: the same by the clock that nobody sets
@@ -48,6 +50,7 @@ class CoordinatorAgent:
         self.begun = time.monotonic()
         self.lock = threading.Lock()
         self.telling = threading.Lock()
+        self.watch = Watch(self, has_broker)
         words = ["coordinator", "--record", f"{setup.home}/record", "--key", setup.key]
         self.talk = Talk("coordinator", [setup.program, *words], lambda: None, self.hear)
 
@@ -63,16 +66,19 @@ class CoordinatorAgent:
         for fact in answer.facts:
             self._hear_fact(fact.split(" "))
         for line in answer.sends:
-            self.setup.transport.send(address_of(line), line)
+            self.watch.take_line(line)
+            if self.watch.may_send(line):
+                self.setup.transport.send(address_of(line), line)
 
     def _hear_grants(self, lines: list[str]) -> None:
         """Grants that are made just now, also to asks that waited."""
         for line in lines:
             words = line.split(" ")
             if words[0] == "granted":
-                self.since[int(words[4])] = time.time()
-                while len(self.since) > SINCE_MOST:
-                    self.since.pop(next(iter(self.since)))
+                with self.lock:
+                    self.since[int(words[4])] = time.time()
+                    while len(self.since) > SINCE_MOST:
+                        del self.since[next(iter(self.since))]
 
     def _hear_fact(self, words: list[str]) -> None:
         if words[0] in ("ended", "outdated", "gone") and len(words) > 1:
@@ -98,12 +104,13 @@ class CoordinatorAgent:
     def serve(self) -> None:
         """Hears messages for ever, sends its grants again now and then, and withdraws the leases of nodes that fell silent."""
         delay, due = 1.0, time.monotonic() + 1.0
-        while not self.talk.stopped:
+        while not self.talk.stopped and not self.watch.fault:
             try:
-                lines = self._lines(0.5)
+                lines = self._lines(0.1 if self.watch.is_quiet() else 0.5)
+                self.watch.go_on()
                 if any(note.startswith(("granted", "parked")) for note in self.receive(lines)):
                     delay = 1.0
-                if time.monotonic() > due:
+                if time.monotonic() > due and not self.watch.is_quiet():
                     self.call("nudge")
                     self._withdraw_silent()
                     delay = min(delay * 2, NUDGE_MOST)
@@ -130,8 +137,10 @@ class CoordinatorAgent:
             words = self.hints.open(line)
             if words:
                 self._hear_hint(words)
-            elif "\n" not in line and "\r" not in line:
+            elif "\n" not in line and "\r" not in line and self.watch.may_pass(line):
                 passed.append(line)
+        passed += self.watch.freed()
+        self.watch.check()
         notes = [answer.note for answer in self.talk.calls([f"m {line}" for line in passed])] if passed else []
         for line, note in zip(passed, notes):
             if not note.startswith(("dropped", "refused")):
@@ -146,6 +155,7 @@ class CoordinatorAgent:
             self._was_heard(int(words[1]))
             if words[2:]:
                 self._tell_ended(int(words[1]), {int(word) for word in words[2:]})
+        self.watch.hear(words)
         if words[0] == "left":
             self.left[int(words[1])] = (int(words[2]), {int(word) for word in words[3:]})
         if words[0] == "who":
@@ -163,9 +173,10 @@ class CoordinatorAgent:
             threading.Thread(target=self._tell_needed, args=(int(words[1]), words[2], int(words[3])), daemon=True).start()
 
     def _tell_last(self, node: int, word: str, slot: str) -> None:
-        """The last version of a slot, to a node that has no lease of it."""
+        """The last version of a slot, or of any instance of a folder, to a node that has no lease of it."""
         with contextlib.suppress(FarmFault):
-            found = next((each for each in self.status().folders if each.slot == slot), None)
+            folders = [each for each in self.status().folders if slot in (each.slot, each.slot.partition("#")[0])]
+            found = max(folders, key=lambda each: each.ticket, default=None)
             text = f"lastis {node} {word} {found.version} {found.digest}" if found else f"lastis {node} {word} 0 {EMPTY}"
             self.setup.transport.send(node_address(node), self.hints.seal(text))
 
@@ -228,7 +239,9 @@ class CoordinatorAgent:
 
     def _lease(self, words: list[str]) -> Lease:
         ticket, node, life, ask = (int(word) for word in words[:4])
-        return Lease(ticket=ticket, node=node, life=life, ask=ask, kind=words[4], slots=tuple(words[5:]), since=self.since.get(ticket))
+        with self.lock:
+            since = self.since.get(ticket)
+        return Lease(ticket=ticket, node=node, life=life, ask=ask, kind=words[4], slots=tuple(words[5:]), since=since)
 
     def _waiting(self, words: list[str]) -> Waiting:
         node, life, ask = (int(word) for word in words[1:4])
@@ -243,10 +256,13 @@ class CoordinatorAgent:
 
     def _last_versions(self, slot: str, number: int, count: int) -> tuple[Version, ...]:
         """Asked of the filter only where the folder has a new one."""
-        known = self.last.get(slot)
+        with self.lock:
+            known = self.last.get(slot)
         if known is None or known[0] != number or len(known[1]) < min(count, number):
             versions = self.versions(slot)[-count:][::-1]
-            known = self.last[slot] = (number, tuple(version._replace(size=self._size(version.digest)) for version in versions))
+            known = (number, tuple(version._replace(size=self._size(version.digest)) for version in versions))
+            with self.lock:
+                self.last[slot] = known
         return known[1][:count]
 
     def _size(self, digest: str) -> int | None:
@@ -275,15 +291,19 @@ class CoordinatorAgent:
 
     def operate(self, *words: str) -> str:
         """An operator's call. What came of it; a refusal is a fault."""
+        self.watch.check()
         answer = self.call(line_of(*words))
         if answer.is_refused:
             why = REFUSALS.get(answer.note.removeprefix("refused "))
             raise FarmFault(f"{' '.join(words)}: {answer.note}{f': {why}' if why else ''}")
         return answer.note
 
-    def retire(self, node: int, is_gone: bool) -> str:
-        """Retires a node. Of one that is gone for good a life from an empty store says Hello first, which ends its tenures: whoever
-        says that it is gone vouches that its executions are over."""
+    def retire(self, node: int, is_gone: bool, is_last_too: bool = False) -> str:
+        """Retires a node, and tells it. Of one that is gone for good a life from an empty store says Hello first, which ends its tenures:
+        whoever says that it is gone vouches that its executions are over."""
+        status = self.status()
+        if not is_last_too and {*map(int, status.lives)} - {*status.gone} == {node}:
+            raise UsageFault(f"node {node} is the last one that isn't retired, and no command runs without one: farm retire {node} --yes does it")
         if is_gone:
             with tempfile.TemporaryDirectory(dir=self.setup.home) as room:
                 words = ["node", "--node", str(node), "--nodes", "1024", "--store", f"{room}/filter", "--key", self.setup.key]
@@ -292,11 +312,13 @@ class CoordinatorAgent:
                 except FilterGone as gone:
                     raise FarmFault(f"no life of node {node} can be begun: {gone.said}") from None
                 try:
-                    self.receive(last.greeting.sends)
+                    self.talk.calls([f"m {line}" for line in last.greeting.sends])
                 finally:
                     last.close()
         try:
-            return self.operate("retire", str(node))
+            done = self.operate("retire", str(node))
+            self.setup.transport.send(node_address(node), self.hints.seal(f"gone {node}"))
+            return done
         except FarmFault as fault:
             if "TenureHeld" in str(fault) and not is_gone:
                 raise FarmFault(
@@ -307,3 +329,5 @@ class CoordinatorAgent:
 
     def stop(self) -> None:
         self.talk.stop()
+        with contextlib.suppress(OSError):
+            self.watch.knowledge.save(at_once=True)

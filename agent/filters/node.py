@@ -11,12 +11,13 @@ import re
 import threading
 import time
 from dataclasses import dataclass
-from typing import Callable
+from typing import Callable, Iterable
 
 from agent.runs.caller import LATE, Caller, Patience
 from agent.runs.executions import Executions
 from agent.faults import ClientGone, FarmFault, LifeOver, NodeRetired, WaitOver, tell
 from agent.transport.hints import Hints
+from agent.filters.knowledge import Knowledge, older, told, words_of
 from agent.filters.lines import Answer, Talk, line_of
 from agent.transport.needs import Needs
 from agent.folders.places import Places
@@ -72,6 +73,10 @@ class NodeAgent:
         self.resent = 0.0
         self.life = 0
         self.retired = False
+        self.knowledge = Knowledge(f"{self.home}/known", self.hints.generation())
+        self.older = older(f"{self.home}/known")
+        self.divided = ""  # why it takes part in nothing more
+        # The lock of `changed` has the following, which several threads use.
         self.unwanted: set[tuple[int, int]] = set()  # epoch and ask: nobody waits for them, and no call takes them back
         self.holders: dict[int, str] = {}  # of an ask: who has its folders
         self.running: set[int] = set()  # tickets of commands
@@ -112,29 +117,70 @@ class NodeAgent:
             words = line.split(" ")
             if words[0] == "fetch" and looked.setdefault(words[3], False) is False:
                 looked[words[3]] = self.take_stored(words[3])
-            if words[0] != "fetch" or not looked[words[3]]:
+            if not self.divided and (words[0] != "fetch" or not looked[words[3]]):
                 self.setup.transport.send(address_of(line), line)
 
     def _hear_note(self, note: str) -> None:
         words = note.split(" ")
         if words[0] == "life":
             self.life = int(words[1])
-            self.unwanted = {each for each in list(self.unwanted) if each[0] == self.talk.epoch}
+            with self.changed:
+                self.unwanted = {each for each in self.unwanted if each[0] == self.talk.epoch}
         if note not in ("nothing", "resent") and words[0] not in STATES:
             self.log(note[:160])
         if words[0] == "took":
             grant = grant_of(words[1:])
-            if (self.talk.epoch, grant.ask) in self.unwanted:
-                self.unwanted.discard((self.talk.epoch, grant.ask))
+            self.know(grant.ticket, ((slot.name, slot.base, slot.digest) for slot in grant.slots))
+            if self._forgets_unwanted(self.talk.epoch, grant.ask):
                 threading.Thread(target=self.give_back, args=(grant.ticket, self.talk.epoch), daemon=True).start()
         if words[0] == "learned":
-            self.learned[int(words[1])] = versions_of(words[2:])
-            while len(self.learned) > REMEMBERED:
-                del self.learned[next(iter(self.learned))]
+            self.know(int(words[1]), told(words[2:]))
+            with self.changed:
+                self.learned[int(words[1])] = versions_of(words[2:])
+                while len(self.learned) > REMEMBERED:
+                    del self.learned[next(iter(self.learned))]
         if words[0] == "recalled":
             threading.Thread(target=self.shared.recall, args=(int(words[1]),), daemon=True).start()
         if words[0] in AWAITED:
             self.wake()
+
+    def _forgets_unwanted(self, epoch: int, ask: int) -> bool:
+        """Whether nobody waited for an ask, which is over."""
+        with self.changed:
+            was_unwanted = (epoch, ask) in self.unwanted
+            self.unwanted.discard((epoch, ask))
+            return was_unwanted
+
+    def runs(self, ticket: int, is_over: bool = False) -> None:
+        """A command begins under a ticket, or has ended."""
+        with self.changed:
+            if is_over:
+                self.running.discard(ticket)
+                self.ended.discard(ticket)
+            else:
+                self.running.add(ticket)
+
+    def know(self, ticket: int, versions: Iterable[tuple[str, int, str]]) -> None:
+        """Takes what was told of the farm. Where another version is known by its number, two coordinators gave it out, or an old record did."""
+        self.knowledge.take_ticket(ticket)
+        wrong = [why for each in versions if (why := self.knowledge.take(*each))]
+        if wrong and not self.divided:
+            self.tell_known("news")
+            self.divided = (
+                f"node {self.node} takes part in nothing more: {wrong[0]}. Two coordinators gave it out, or one with an old record: "
+                "docs/REFUSALS.md says what to do"
+            )
+            tell(self.divided)
+            self.wake()
+
+    def tell_known(self, word: str) -> None:
+        """Tells the coordinator's agent what is known here, and what was known in generations before this one."""
+        ticket, versions = self.knowledge.whole()
+        parts = list(words_of(versions))
+        texts = [["knows", self.node, word, number, len(parts), ticket, *part] for number, part in enumerate(parts)]
+        texts += [["lost", self.node, *part] for part in words_of(self.older) if part]
+        for text in texts:
+            self.setup.transport.send(COORDINATOR, self.hints.seal(" ".join(map(str, text))))
 
     def wake(self) -> None:
         with self.changed:
@@ -162,7 +208,8 @@ class NodeAgent:
                 line = self.setup.transport.receive(node_address(self.node), 1.0)
                 if time.monotonic() - heard > HEARTBEAT:
                     heard = time.monotonic()
-                    here = " ".join(map(str, ["here", self.node, *list(self.running)]))
+                    with self.changed:
+                        here = " ".join(map(str, ["here", self.node, *self.running]))
                     self.setup.transport.send(COORDINATOR, self.hints.seal(here))
                     self._tell_left()
                     self.merged.tell()
@@ -175,6 +222,8 @@ class NodeAgent:
                 time.sleep(1.0)
 
     def receive(self, line: str) -> None:
+        if self.divided:
+            return
         words = self.hints.open(line)
         if words:
             self._hear_hint(words)
@@ -188,15 +237,24 @@ class NodeAgent:
 
     def _hear_hint(self, words: list[str]) -> None:
         if words[0] == "ended" and int(words[2]) == self.node:
-            self.ended.add(int(words[1]))
+            with self.changed:
+                self.ended.add(int(words[1]))
         elif words[0] == "held" and int(words[1]) == self.node:
-            self.holders[int(words[2])] = " ".join(words[3:])
+            with self.changed:
+                self.holders[int(words[2])] = " ".join(words[3:])
         elif words[0] == "needed" and int(words[1]) == self.node:
             self.needs.take(words[2:])
         elif words[0] == "lastis" and int(words[1]) == self.node:
             return self.merged.hear(words[2:])
+        elif words[0] == "tell" and int(words[1]) == self.node:
+            return self.tell_known(words[2])
+        elif words[0] == "known" and int(words[1]) == self.node:
+            if self.knowledge.is_beyond(int(words[2]), {slot: number for slot, number, _ in told(words[3:])}):
+                self.tell_known("news")
+            return self.know(int(words[2]), told(words[3:]))
         elif words[0] == "gone" and int(words[1]) == self.node:
             self.retired = True
+            self.places.retire()
         elif words[0] == "outdated" and int(words[1]) == self.node and int(words[2]) > self.life:
             tell(f"a later life of node {self.node} was heard, so a new one begins here: does another agent run as node {self.node}?")
             self.talk.restart(self.talk.epoch)
@@ -210,9 +268,10 @@ class NodeAgent:
     def _offer(self, node: int, digest: str) -> None:
         """Gives the store a content that another node misses there, where this one has it."""
         now = time.monotonic()
-        if now - self.offered.get(digest, -LACK_EVERY) < LACK_EVERY:
-            return
-        self.offered[digest] = now
+        with self.changed:
+            if now - self.offered.get(digest, -LACK_EVERY) < LACK_EVERY:
+                return
+            self.offered[digest] = now
         if self.store.offer(digest):
             self.log(f"node {node} missed the content {digest}: it is in the store anew")
             self.setup.transport.send(node_address(node), self.hints.seal(f"offered {node}"))
@@ -244,6 +303,8 @@ class NodeAgent:
                 delay = min(delay * 2, 5.0)
 
     def check_retired(self) -> None:
+        if self.divided:
+            raise FarmFault(self.divided)
         if self.retired:
             raise NodeRetired(f"node {self.node} was retired for good, and runs nothing any more")
 
@@ -283,25 +344,28 @@ class NodeAgent:
                 raise WaitOver(f"{fault}: {UNHEARD}") from None
             raise
         finally:
-            self.holders.pop(ask, None)
+            with self.changed:
+                self.holders.pop(ask, None)
         if words[0] != "granted":
             raise FarmFault(f"it wasn't granted: {' '.join(words)}")
         return grant_of(words[1:])
 
     def _leave(self, ask: int, epoch: int) -> None:
         """Nobody waits for an ask any more: its lease is given back, now or as soon as it is granted."""
-        self.unwanted.add((epoch, ask))
+        with self.changed:
+            self.unwanted.add((epoch, ask))
         with contextlib.suppress(FarmFault, OSError):
             words = self.call(f"state {ask}", epoch).note.split(" ")
             if words[0] == "granted":
                 self.give_back(grant_of(words[1:]).ticket, epoch)
             if words[0] in ("granted", "denied", "none"):
-                self.unwanted.discard((epoch, ask))
+                self._forgets_unwanted(epoch, ask)
         self._tell_left()
 
     def _tell_left(self) -> None:
         """Says for which asks nobody waits any more: no call takes them back, so they stand until they are granted."""
-        asks = [str(ask) for epoch, ask in list(self.unwanted) if epoch == self.talk.epoch]
+        with self.changed:
+            asks = [str(ask) for epoch, ask in self.unwanted if epoch == self.talk.epoch]
         if asks:
             self.setup.transport.send(COORDINATOR, self.hints.seal(" ".join(["left", str(self.node), str(self.life), *asks])))
 
@@ -322,8 +386,12 @@ class NodeAgent:
         if note != f"begun {ticket}":
             raise FarmFault(f"it can't begin: {note.removeprefix('refused ')}")
 
-    def ending(self, ask: int, ticket: int, epoch: int, caller: Caller | None, patience: Patience | None = None) -> Ending:
-        """Waits for what came of a commit. Its versions are in the note that it came with, which another thread may be about to hear."""
+    def ending(
+        self, ask: int, ticket: int, epoch: int, caller: Caller | None, patience: Patience | None = None,
+        over: Callable[[bool], None] = lambda is_answered: None,
+    ) -> Ending:
+        """Waits for what came of a commit, and has what it named held until then: `over` hears whether it was answered. Its versions are in the
+        note that it came with, which another thread may be about to hear."""
         words: list[str] = []
         late = 0.0
 
@@ -338,16 +406,23 @@ class NodeAgent:
         try:
             self.wait(epoch, patience or Patience(caller, None, unheard=f"waiting for the commit of {ticket}: {UNHEARD}"), is_over)
         except (ClientGone, WaitOver):
-            threading.Thread(target=self._resend_until, args=(epoch, is_over), daemon=True).start()
+            threading.Thread(target=self._resend_until, args=(epoch, is_over, over), daemon=True).start()
             raise
+        except BaseException:
+            over(False)
+            raise
+        over(True)
         if words[0] != "committed":
             return Ending(words[0], {})
         return Ending(words[0], versions_of(words[2:]) or self.learned.get(ticket, {}))
 
-    def _resend_until(self, epoch: int, is_over: Callable[[], bool]) -> None:
+    def _resend_until(self, epoch: int, is_over: Callable[[], bool], over: Callable[[bool], None]) -> None:
         """Sends a commit again until it is answered, though nobody waits for that: else its folders would stay leased."""
+        is_answered = False
         with contextlib.suppress(FarmFault):
             self.wait(epoch, Patience(None, None), is_over)
+            is_answered = True
+        over(is_answered)
 
     def give_back(self, ticket: int, epoch: int) -> None:
         with contextlib.suppress(LifeOver):
@@ -415,3 +490,5 @@ class NodeAgent:
             self.executions.all_over()
             self.unleased.all_over()
             self.talk.stop()
+        with contextlib.suppress(OSError):
+            self.knowledge.save(at_once=True)

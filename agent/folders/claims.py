@@ -1,22 +1,53 @@
 """The paths that commands of this machine have, whichever home their farm has, and whichever process gave them out.
 
-Owes the filters that no two commands have one path at once, nor one of them what is within the other's or around it. A path is claimed by
-sockets with names of the machine's, which last until all who have them close them: also what fills it when its agent is killed.
+Owes the filters that no two commands of a user have one path at once, nor one of them what is within the other's or around it. A path is
+claimed by locks on files in one place that only its user can write: its own alone, and those of the folders around it together with others.
+They last until all who have them close them: also what fills the path when its agent is killed. What another user made is refused elsewhere.
 """
 from __future__ import annotations
 
 import contextlib
-import errno
-import hashlib
+import fcntl
 import os
-import secrets
-import socket
+import stat
 from typing import Iterator
 
+from agent.faults import FarmFault
 from agent.words import short_name
 
-HAS, AROUND = "farm-path-", "farm-around-"
-AT_ONCE, LENGTH = 9, 8  # how many folders around a path one name tells, and in how many digits each
+ROOTS, NAME = "/run", "farm-paths"
+
+
+def place() -> str:
+    """The folder of this user's claims. In a network namespace of its own a process has the same one."""
+    uid = os.geteuid()
+    run = ROOTS if uid == 0 else f"{ROOTS}/user/{uid}"
+    folder = f"{run}/{NAME}" if os.access(run, os.W_OK) else f"/tmp/{NAME}-{uid}"
+    with contextlib.suppress(FileExistsError):
+        os.mkdir(folder, 0o700)
+    here = os.lstat(folder)
+    if not stat.S_ISDIR(here.st_mode) or here.st_uid != uid or here.st_mode & 0o077:
+        raise FarmFault(f"{folder} tells which paths are in use, and others may write it: remove it")
+    return folder
+
+
+class Claim:
+    """A lock, and the file that it is on."""
+
+    def __init__(self, path: str, handle: int) -> None:
+        self.path, self.handle = path, handle
+
+    def fileno(self) -> int:
+        return self.handle
+
+    def __enter__(self) -> Claim:
+        return self
+
+    def __exit__(self, *_fault: object) -> None:
+        with contextlib.suppress(OSError):  # who else has it removes it
+            fcntl.flock(self.handle, fcntl.LOCK_EX | fcntl.LOCK_NB)
+            os.unlink(self.path)
+        os.close(self.handle)
 
 
 def _mark(path: str) -> str:
@@ -26,8 +57,22 @@ def _mark(path: str) -> str:
     return f"{here.st_dev}-{here.st_ino}-{short_name(name, 'name')}"
 
 
-def _short(mark: str) -> str:
-    return hashlib.sha256(mark.encode()).hexdigest()[:LENGTH]
+def _locked(path: str, how: int) -> Claim | None:
+    """The lock on a file, which is made; none where another one has it."""
+    while True:
+        handle = os.open(path, os.O_RDWR | os.O_CREAT | os.O_CLOEXEC | os.O_NOFOLLOW, 0o600)
+        try:
+            fcntl.flock(handle, how | fcntl.LOCK_NB)
+            with contextlib.suppress(FileNotFoundError):
+                if os.path.samestat(os.fstat(handle), os.lstat(path)):
+                    return Claim(path, handle)
+        except BlockingIOError:
+            os.close(handle)
+            return None
+        except BaseException:
+            os.close(handle)
+            raise
+        os.close(handle)  # who had it removed it meanwhile
 
 
 def _folders_around(path: str) -> Iterator[str]:
@@ -35,49 +80,20 @@ def _folders_around(path: str) -> Iterator[str]:
         yield path
 
 
-def _bound(name: str) -> socket.socket | None:
-    """A socket of this name; none where another one has it."""
-    made = socket.socket(socket.AF_UNIX)
-    try:
-        made.bind(f"\0{name}")
-        return made
-    except OSError as fault:
-        made.close()
-        if fault.errno == errno.EADDRINUSE:
-            return None
-        raise
-
-
-def _names() -> list[str]:
-    """All names by which paths are claimed."""
-    with open("/proc/net/unix", "rb") as file:
-        return [line.split()[-1].decode(errors="replace")[1:] for line in file if b" @farm-" in line]
-
-
-def _is_around(around: list[str]) -> bool:
-    """Whether one of these folders is claimed."""
-    claimed = {name.removeprefix(HAS) for name in _names() if name.startswith(HAS)}
-    return not claimed.isdisjoint(map(_mark, around))
-
-
-def _is_within(path: str) -> bool:
-    """Whether anything within a path is claimed."""
-    told = [name.rpartition("-")[2] for name in _names() if name.startswith(AROUND)]
-    return _short(_mark(path)) in {digits[at : at + LENGTH] for digits in told for at in range(0, len(digits), LENGTH)}
-
-
-def claim(path: str) -> list[socket.socket] | None:
-    """The sockets by which a path is claimed; none where it can't be had now. Who claims first and looks then, as all do, is seen."""
-    around = list(_folders_around(path))
-    if _is_around([folder for folder in around if os.path.isdir(folder)]):
-        return None  # nothing is made within what others have
-    os.makedirs(os.path.dirname(path), exist_ok=True)
-    marks = "".join(_short(_mark(folder)) for folder in around)
-    told = [marks[at : at + AT_ONCE * LENGTH] for at in range(0, len(marks), AT_ONCE * LENGTH)]
-    names = [f"{HAS}{_mark(path)}", *(f"{AROUND}{secrets.token_hex(8)}-{some}" for some in told)]
+def claim(path: str) -> list[Claim] | None:
+    """The locks by which a path is claimed; none where it can't be had now. Nothing is made within what others have."""
+    here, claims = place(), list[Claim]()
+    folders = list(reversed(list(_folders_around(path))))
     with contextlib.ExitStack() as held:
-        sockets = [held.enter_context(made) for name in names if (made := _bound(name))]
-        if len(sockets) == len(names) and not _is_around(around) and not _is_within(path):
+        for each in (*folders, path):
+            made = _locked(f"{here}/{_mark(each)}", fcntl.LOCK_EX if each == path else fcntl.LOCK_SH)
+            if made is None:
+                break
+            claims.append(held.enter_context(made))
+            if each != path:
+                with contextlib.suppress(FileExistsError):
+                    os.mkdir(each)
+        else:
             held.pop_all()
-            return sockets
+            return claims
     return None

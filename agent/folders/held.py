@@ -95,7 +95,8 @@ class Held:
         self.entries, self.marks, self.odd, self.others, self.is_saved = {}, {}, [], [], False
 
     def bring(self, target: Listing, pieces: Callable[[str], Iterable[bytes]], check: Callable[[], None] = lambda: None) -> Brought:
-        """Makes it what a listing says; `look` came just before, and nobody else has it. The bytes of a path are those of `pieces`."""
+        """Makes it what a listing says; `look` came just before, and nobody else has it. The bytes of a path are those of `pieces`: where
+        they can't be had, or written, or `check` finds that nobody waits, the folder is as it was."""
         return _Bringing(self, target, pieces, check).run()
 
 
@@ -105,7 +106,8 @@ class _Bringing:
     def __init__(self, held: Held, target: Listing, pieces: Callable[[str], Iterable[bytes]], check: Callable[[], None]) -> None:
         self.held, self.target, self.pieces, self.check = held, target, pieces, check
         self.now = held.entries
-        self.fresh = f"{FRESH}{os.getpid()}"
+        self.room = f"{held.path}/{FRESH}{os.getpid()}"  # what is new is made there first
+        self.staged: dict[str, str] = {}  # of a path: where what is new for it stands
         self.touched: set[str] = set()  # folders whose time isn't theirs any more
         self.differing = [
             name for name in self.now.keys() | target.keys() if (old := self.now.get(name)) is not (new := target.get(name)) and old != new
@@ -118,15 +120,56 @@ class _Bringing:
         held = self.held
         if self.differing or held.odd or held.others:
             held.is_saved = False
-        plain = self._make_plain()
-        removed = self._remove()
-        written = self._write()
-        changed = {*self.differing, *self.touched, *plain}
+        try:
+            self._stage()
+            plain = self._make_plain()
+            removed = self._remove()
+            written = self._write()
+        finally:
+            if self.staged:
+                trees.remove(self.room)
+        if self.staged:
+            _dress(held.path, self.target[""])
+        changed = {*self.differing, *self.touched, *plain, *([""] if self.staged else [])}
         for name in changed & self.target.keys():
             held.marks[name] = mark = mark_of(os.lstat(self._whole(name)))
             held.newest = max(held.newest, mark.changed)
         held.entries, held.odd, held.others = dict(self.target), [], []
         return Brought(written, removed)
+
+    def _stage(self) -> None:
+        """Makes each file, link and pipe that is new, or that hard links make another one."""
+        try:
+            for name in self.differing:
+                new, old = self.target.get(name), self.now.get(name)
+                if new and new.kind != "d" and not (old and (old.kind, old.what, old.size) == (new.kind, new.what, new.size)):
+                    self.check()
+                    self._make(name, new, self.pieces(name) if new.kind == "f" else ())
+            for name in self.held.odd:
+                entry, path = self.now[name], self._whole(name)
+                if entry == self.target.get(name) and entry.kind != "d" and os.lstat(path).st_nlink > 1:
+                    self._make(name, entry, _read(path) if entry.kind == "f" else ())
+        except BaseException:
+            if self.staged:
+                trees.remove(self.room)
+                _dress(self.held.path, self.now[""])
+            raise
+
+    def _make(self, name: str, entry: Entry, pieces: Iterable[bytes]) -> None:
+        fresh = f"{self.room}/{len(self.staged)}"
+        if not self.staged:
+            trees.remove(self.room)
+            os.mkdir(self.room, 0o700)
+        self.staged[name] = fresh
+        if entry.kind == "f":
+            with open(fresh, "wb") as file:
+                for piece in pieces:
+                    file.write(piece)
+        elif entry.kind == "l":
+            os.symlink(entry.what, fresh)
+        else:
+            os.mkfifo(fresh)
+        _dress(fresh, entry)
 
     def _make_plain(self) -> list[str]:
         """Takes away what a version doesn't keep. The paths that stay, and were more than that."""
@@ -135,12 +178,12 @@ class _Bringing:
             self.touched.add(folder_of(name))
         odd = [name for name in self.held.odd if self.now.get(name) is self.target.get(name) or self.now.get(name) == self.target.get(name)]
         for name in odd:
-            path, entry = self._whole(name), self.now[name]
+            path = self._whole(name)
             with contextlib.suppress(OSError):  # none are there
                 for each in os.listxattr(path, follow_symlinks=False):
                     os.removexattr(path, each, follow_symlinks=False)
-            if entry.kind != "d" and os.lstat(path).st_nlink > 1:
-                self._put(name, entry, _read(path) if entry.kind == "f" else ())
+            if name in self.staged:
+                os.rename(self.staged[name], path)
                 self.touched.add(folder_of(name))
         return odd
 
@@ -161,7 +204,6 @@ class _Bringing:
             new, old = self.target.get(name), self.now.get(name)
             if new is None:
                 continue
-            self.check()
             if new.kind == "d":
                 if name and (old is None or old.kind != "d"):
                     os.mkdir(self._whole(name), 0o700)
@@ -169,31 +211,15 @@ class _Bringing:
                 folders.add(name)
                 continue
             count += 1
-            if old and (old.kind, old.what, old.size) == (new.kind, new.what, new.size):
+            if name not in self.staged:
                 _dress(self._whole(name), new)
                 continue
-            self._put(name, new, self.pieces(name) if new.kind == "f" else ())
+            os.rename(self.staged[name], self._whole(name))
             self.touched.add(folder_of(name))
         for name in sorted(folders | self.touched & self.target.keys(), key=order, reverse=True):
             _dress(self._whole(name), self.target[name])
         self.touched |= folders
         return count
-
-    def _put(self, name: str, entry: Entry, pieces: Iterable[bytes]) -> None:
-        """Puts a file, link or pipe in its place, whole or not at all."""
-        fresh = self._whole(f"{folder_of(name)}/{self.fresh}".lstrip("/"))
-        with contextlib.suppress(FileNotFoundError):
-            os.unlink(fresh)
-        if entry.kind == "f":
-            with open(fresh, "wb") as file:
-                for piece in pieces:
-                    file.write(piece)
-        elif entry.kind == "l":
-            os.symlink(entry.what, fresh)
-        else:
-            os.mkfifo(fresh)
-        _dress(fresh, entry)
-        os.rename(fresh, self._whole(name))
 
 
 def _read(path: str) -> Iterator[bytes]:

@@ -198,6 +198,23 @@ class Places:
     def _is_ours(self, path: str) -> bool:
         return self._read(path)[:3] == [path, os.lstat(path).st_dev, identity(path)]
 
+    def retire(self) -> None:
+        """The node was retired: another one of this machine may have its paths."""
+        put_file(f"{self.home}/retired", b"")
+
+    def _is_left(self, path: str) -> bool:
+        """Whether a node of this home that was retired made the folder at a path."""
+        farm = os.path.dirname(os.path.dirname(self.home))
+        homes = [f"{farm}/{name}/places" for name in os.listdir(farm) if name.startswith("node")]
+        rows = [_list_of(f"{home}/{short_name(path, 'path')}.json") for home in homes if os.path.exists(f"{home}/retired")]
+        return [path, os.lstat(path).st_dev, identity(path)] in [row[:3] for row in rows]
+
+    def size_of(self, digest: str) -> str:
+        """How much a version holds, in words, where it is in memory."""
+        version = self.versions.find(digest)
+        sizes = [entry.size for entry in version.listing.values() if entry.kind == "f"] if version else []
+        return f": {len(sizes)} file{'s' * (len(sizes) != 1)}, {sum(sizes)} bytes" if version else ""
+
     def _held(self, path: str) -> Held:
         """What is known of what a path holds."""
         found = self.known.pop(path, None) or Held(path, f"{self._place(path)}.marks")
@@ -212,10 +229,10 @@ class Places:
             if not is_folder(path):
                 raise FarmFault(f"{path} is there, and is no folder")
             if os.listdir(path):
-                if not self._is_ours(path):
+                if not self._is_ours(path) and not self._is_left(path):
                     raise FarmFault(f"{path} is there, and wasn't made by this node: name a path that is free")
                 self.trash.take(path)
-        os.makedirs(path, exist_ok=True)
+        own_anew(path)
         self.known.pop(path, None)
         self._note(path, None)
 
@@ -362,6 +379,16 @@ class Places:
             self.versions.add(version)
             self._keep_known(held, path, digest)
             return version.index, digest
+
+
+def own_anew(path: str) -> None:
+    """Makes an empty folder at a path, or takes the one that is there: one that another user made would stay that user's to write."""
+    if os.path.lexists(path) and os.lstat(path).st_uid != os.geteuid():
+        try:
+            os.rmdir(path)
+        except OSError:
+            raise FarmFault(f"{path} is another user's folder: name a path that is free, or remove it") from None
+    os.makedirs(path, exist_ok=True)
 
 
 def _device_of(path: str) -> int:

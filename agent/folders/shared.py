@@ -237,14 +237,21 @@ class SharedFolders:
         if tenure.home and tenure.mount:
             tenure.home.still([tenure.mount], lambda: None)
         index, digest = agent.places.keep(agent.store, tenure.path, patience.say)
-        if tenure.home and digest == slot.digest:
-            self._given_up(tenure, f"abort {tenure.ticket}")
-            return Closed(f"{folder} is given back: nothing was changed in it, so there is no new version")
-        with agent.places.rooms.file(index) as file:
-            note = self._given_up(tenure, line_of("finish", str(tenure.ticket), f"{slot.name}={file}"))
-        if note != f"finished {tenure.ticket}":
-            raise FarmFault(note)
-        ending = agent.ending(tenure.ask, tenure.ticket, tenure.epoch, patience.caller)
+        try:
+            if tenure.home and digest == slot.digest:
+                self._given_up(tenure, f"abort {tenure.ticket}")
+                agent.store.release(digest)
+                return Closed(f"{folder} is given back: nothing was changed in it, so there is no new version")
+            with agent.places.rooms.file(index) as file:
+                note = self._given_up(tenure, line_of("finish", str(tenure.ticket), f"{slot.name}={file}"))
+            if note != f"finished {tenure.ticket}":
+                raise FarmFault(note)
+        except BaseException:
+            agent.store.release(digest, is_answered=False)
+            raise
+        ending = agent.ending(
+            tenure.ask, tenure.ticket, tenure.epoch, patience.caller, over=lambda is_answered: agent.store.release(digest, is_answered)
+        )
         said = [f"{name} version {number}" for name, (number, _) in ending.versions.items()]
         return Closed(f"{ending.how} {tenure.ticket} {' '.join(said) or folder}", is_lost=ending.how != "committed")
 

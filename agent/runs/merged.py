@@ -22,7 +22,7 @@ from agent.folders.held import Held
 from agent.folders.listing import edits
 from agent.folders.merging import FAIL, is_database, merge
 from agent.folders.places import Places
-from agent.folders.versions import Version, none
+from agent.folders.versions import REMEMBERED, Version, none
 from agent.runs.caller import LATE, Patience
 from agent.service.operators import Snapshot
 from agent.store.packing import ChunkSpoilt
@@ -60,6 +60,7 @@ class Own:
     removed: int = 0
     since: float = field(default_factory=time.time)
     state: str = "running"
+    kept: list[str] = field(default_factory=list)  # digests that are held until a commit is answered
 
 
 @dataclass(frozen=True)
@@ -171,9 +172,14 @@ class MergedFolders:
         while True:
             try:
                 content = agent.content(slot, agent.talk.settled_epoch(), patience)
-                return agent.places.versions.of(agent.store.chunks, content, Patience(patience.caller, None).check)
+                break
             except LifeOver:
                 self._check_life()  # what was asked for isn't bound to a life: again
+        try:
+            return agent.places.versions.of(agent.store.chunks, content, Patience(patience.caller, None).check)
+        except ChunkSpoilt:
+            agent.store.mend(content)
+            raise
 
     def tell(self) -> None:
         """Tells the coordinator's agent which commands run without a lease."""
@@ -259,13 +265,17 @@ class MergedFolders:
         with contextlib.suppress(OSError):
             own.held.save()
         self._free(own.held)
-        self._give_up(os.path.dirname(own.held.path))
+        for name in os.listdir(self.home):
+            self._give_up(f"{self.home}/{name}")
 
     def _free(self, held: Held) -> None:
         with self.lock:
             self.busy.discard(held.path)
+            self.helds.pop(held.path, None)
             if held.entries:
                 self.helds[held.path] = held
+            while len(self.helds) > 1 and sum(len(each.entries) for each in self.helds.values()) > REMEMBERED:
+                del self.helds[next(iter(self.helds))]  # its marks are kept beside it
 
     def _give_up(self, home: str) -> None:
         """Removes folders that nobody uses: more than are kept warm, old ones, and all where the disk is nearly full."""
@@ -292,11 +302,17 @@ class MergedFolders:
             return Counted(own.slot, None, f"{own.slot}: the command changed nothing in it")
         own.removed = sum(path not in own.held.entries for path in found)
         own.changed = len(found) - own.removed
+        spoilt = 0
         while True:
             try:
                 counted = self._turn(own, rule, patience)
             except LifeOver:
                 self._check_life()
+                counted = None
+            except ChunkSpoilt:  # it is got anew, from where it is right
+                spoilt += 1
+                if spoilt > TURNS:
+                    raise
                 counted = None
             if counted:
                 return counted
@@ -306,6 +322,16 @@ class MergedFolders:
 
     def _turn(self, own: Own, rule: str, patience: Patience) -> Counted | None:
         """Merges, leases, and commits once. None where the lease was lost."""
+        try:
+            return self._turn_held(own, rule, patience)
+        finally:
+            self._release(own.kept, True)  # no commit names what is held yet
+
+    def _release(self, kept: list[str], is_answered: bool) -> None:
+        while kept:
+            self.agent.store.release(kept.pop(), is_answered)
+
+    def _turn_held(self, own: Own, rule: str, patience: Patience) -> Counted | None:
         agent = self.agent
         with agent.store.making():
             self._merge(own, self.last(own.slot, patience), rule, patience)
@@ -332,7 +358,8 @@ class MergedFolders:
             if not isinstance(fault, LifeOver):
                 agent.give_back(grant.ticket, epoch)
             raise
-        ending = agent.ending(ask, grant.ticket, epoch, patience.caller, patience)
+        kept, own.kept = own.kept, []
+        ending = agent.ending(ask, grant.ticket, epoch, patience.caller, patience, lambda is_answered: self._release(kept, is_answered))
         agent.log(f"the lease {grant.ticket} of a merge was held for {time.monotonic() - leased:.2f} s{', and merged again under it' if is_late else ''}")
         if ending.how != "committed":
             return None
@@ -358,7 +385,11 @@ class MergedFolders:
         if done.conflicts and rule == FAIL:
             raise InConflict(f"{len(done.conflicts)} paths of {own.slot} were changed by others too, {done.conflicts[0]} among them: nothing is kept")
         reader = theirs.reader()
-        own.held.bring(done.listing, lambda path: theirs.pieces(path, reader))
+        try:
+            own.held.bring(done.listing, lambda path: theirs.pieces(path, reader))
+        except ChunkSpoilt:
+            self.agent.store.mend(theirs.index)
+            raise
         own.base, own.number = theirs, slot.base
         own.conflicts.update(done.conflicts)
 
@@ -371,7 +402,7 @@ class MergedFolders:
             patience.check()
 
         version = index.make(own.held, own.base if own.base.index else none(agent.store.chunks), agent.store.chunks)
-        agent.store.publish(version.index, away, own.base.index)
+        own.kept.append(agent.store.publish(version.index, away, own.base.index))
         own.held.stands = version.digest
         agent.places.versions.add(version)
         return version.index

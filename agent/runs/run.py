@@ -57,6 +57,7 @@ class Job:
     umask: int | None = None
     on_conflict: str = "newer"  # whose a path is that a merged folder's others changed too
     tells_conflicts: bool = False  # each by its path
+    is_warm: bool = False  # a new PRIVATE folder begins as the last version of any
 
 
 class Run:
@@ -74,6 +75,7 @@ class Run:
         self.leased = [want for want in job.wants if not want.is_merged]
         self.merged = sorted((want for want in job.wants if want.is_merged), key=lambda want: want.folder)
         self.owns: dict[str, Own] = {}  # the command's copies of merged folders
+        self.kept: list[str] = []  # digests that are held until the commit is answered
         self.counts = False  # whether what it left in the folders of its lease counts
         if len(job.wants) > MOST_FOLDERS:
             raise UsageFault(f"{len(job.wants)} folders: one lease has at most {MOST_FOLDERS}")
@@ -212,7 +214,7 @@ class Run:
                 if note != f"finished {grant.ticket}":
                     raise FarmFault(f"it can't be finished: {note}")
                 self.finished = True
-            return self._settle(grant, status, self.agent.ending(ask, grant.ticket, self.epoch, self.caller), bool(words))
+            return self._settle(grant, status, self.agent.ending(ask, grant.ticket, self.epoch, self.caller, over=self._release), bool(words))
         except BaseException as fault:
             if self.finished or self.begun and isinstance(fault, LifeOver):
                 self.caller.say(f"lost {grant.ticket}: what the command left isn't known to count")
@@ -220,7 +222,9 @@ class Run:
                 self.agent.give_back(grant.ticket, self.epoch)
             raise
         finally:
-            self.agent.ended.discard(grant.ticket)
+            self.agent.runs(grant.ticket, is_over=True)
+            if not self.finished:
+                self._release(True)  # nothing of it is committed
 
     def _execute(self, grant: Grant, tenures: dict[str, Tenure], held: contextlib.ExitStack) -> tuple[int, list[tuple[str, str]], bool]:
         """Fills the folders, runs the command, and keeps what it left: its status, each slot with the file of its index, and whether any of
@@ -283,18 +287,41 @@ class Run:
         return check
 
     def _fill(self, want: Want, slot: Slot, path: str) -> None:
-        self.agent.fill(slot, path, self.epoch, self.patience)
-        self.job.filled(want, path, slot.base == 0)
+        is_new = slot.base == 0
+        if not (is_new and self.job.is_warm and slot.name.startswith("private:") and self._filled_warm(slot, path)):
+            self.agent.fill(slot, path, self.epoch, self.patience)
+        self.job.filled(want, path, is_new)
+
+    def _filled_warm(self, slot: Slot, path: str) -> bool:
+        """Fills a new PRIVATE folder with the last version that any of its name committed. Whether there is one, and it is here."""
+        last = self.agent.merged.last(slot.folder, Patience(self.caller, None))
+        if not last.base:
+            return False
+        try:
+            self.agent.fill(slot._replace(digest=last.digest), path, self.epoch, self.patience)
+        except (LifeOver, ClientGone, WaitOver):
+            raise
+        except FarmFault:  # it was forgotten meanwhile
+            return False
+        self.caller.say(f"{slot.name} begins as a version of another one")
+        return True
+
+    def _release(self, is_answered: bool) -> None:
+        kept, self.kept = self.kept, []
+        for digest in kept:
+            self.agent.store.release(digest, is_answered)
 
     def _kept(self, slot: Slot) -> tuple[bytes, str]:
-        """Keeps what a slot's path holds: its index, and the digest of that."""
+        """Keeps what a slot's path holds: its index, and the digest of that, which is held then."""
         patience = Patience(self.caller, None)
 
         def away(why: str) -> None:
             patience.say(why)
             patience.check()
 
-        return self.agent.places.keep(self.agent.store, self.paths[slot.folder], away, patience.check)
+        index, digest = self.agent.places.keep(self.agent.store, self.paths[slot.folder], away, patience.check)
+        self.kept.append(digest)
+        return index, digest
 
     def _command(self, grant: Grant | None, tenures: dict[str, Tenure], binds: list[tuple[str, str, bool]]) -> int:
         agent, job = self.agent, self.job
@@ -312,12 +339,12 @@ class Run:
             execution = executions.start(self.command, job.cwd, self.env, self.caller.streams, binds, job.umask)
         self.caller.signalled = execution.signal
         if grant:
-            agent.running.add(grant.ticket)
+            agent.runs(grant.ticket)
         try:
             return self._watch(grant, execution)
         finally:
             if grant:
-                agent.running.discard(grant.ticket)
+                agent.runs(grant.ticket, is_over=True)
             self.caller.signalled = None
             execution.end()
             executions.over(execution)
@@ -346,8 +373,8 @@ class Run:
                 execution.end()
 
     def _settle(self, grant: Grant, status: int, ending: Ending, had_news: bool) -> int:
-        for slot, (number, _) in ending.versions.items():
-            self.caller.say(f"committed {grant.ticket} {slot} version {number}")
+        for slot, (number, digest) in ending.versions.items():
+            self.caller.say(f"committed {grant.ticket} {slot} version {number}{self.agent.places.size_of(digest)}")
         self.how = ending.how
         if ending.how == "fenced":
             self.caller.say(f"fenced {grant.ticket}: the lease had ended, and what the command left doesn't count")

@@ -21,6 +21,12 @@ class LogRequest(NamedTuple):
     folder: str
 
 
+class LostRequest(NamedTuple):
+    """Asks for the versions that generations before this one had, and the record hasn't: of a folder or slot, or all."""
+
+    folder: str | None
+
+
 class WithdrawRequest(NamedTuple):
     ticket: int
 
@@ -28,6 +34,7 @@ class WithdrawRequest(NamedTuple):
 class RetireRequest(NamedTuple):
     node: int
     is_gone: bool  # the operator vouches that all it ran is over
+    is_last_too: bool = False  # also where no other node is left
 
 
 class PruneRequest(NamedTuple):
@@ -96,5 +103,5 @@ class Versions(NamedTuple):
     slots: dict[str, tuple[Version, ...]]
 
 
-CoordinatorRequest = StatusRequest | LogRequest | WithdrawRequest | RetireRequest | PruneRequest | NeededRequest | StoreRequest
+CoordinatorRequest = StatusRequest | LogRequest | LostRequest | WithdrawRequest | RetireRequest | PruneRequest | NeededRequest | StoreRequest
 CoordinatorTold = Digests | StorePlace | Status | Versions

@@ -28,6 +28,7 @@ class RunRequest(NamedTuple):
     stops_when_lost: bool = False
     on_conflict: str = "newer"
     tells_conflicts: bool = False
+    is_warm: bool = False  # a new PRIVATE folder begins as the last version of any
 
 
 class BuildOptions(NamedTuple):
@@ -64,11 +65,12 @@ class BuildRequest(NamedTuple):
     format: str | None = None
     wait: float | None = None
     stops_when_lost: bool = False
-    shared_as: str = "shared"
+    shared_as: tuple[str, ...] = ()  # `MODE`, or `ID=MODE`: what SHARED mounts are treated as
     keep_failed: bool = False
     tag_fenced: bool = False
     on_conflict: str = "newer"
     tells_conflicts: bool = False
+    is_warm: bool = False  # a new PRIVATE folder begins as the last version of any
 
 
 class ForgetRequest(NamedTuple):

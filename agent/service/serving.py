@@ -5,6 +5,7 @@ Owes the filters that one agent alone serves a home, which their own locks see t
 from __future__ import annotations
 
 import contextlib
+import math
 import os
 import signal
 import socket
@@ -14,24 +15,27 @@ import time
 from dataclasses import dataclass, field
 
 from agent.build.builds import Build, Builds
-from agent.service.client import check_home
+from agent.service.client import check_home, is_there
 from agent.filters.coordinator import SILENT_LEAST, CoordinatorAgent
 from agent.runs.executions import open_many
 from agent.faults import LOST, FarmFault, UsageFault, show, tell
-from agent.transport.hints import Hints, make_key
+from agent.transport.hints import Hints, make_key, renew_key
 from agent.filters.lines import line_of
 from agent.filters.node import NodeAgent, Setup
 from agent.folders.places import check_outside
-from agent.store.opened import farm_name, open_store
+from agent.store.opened import open_store
 from agent.store.redis import RedisStore
 from agent.transport.redis import RedisTransport
 from agent.runs.run import Job, Run
-from agent.service.operators import LogRequest, PruneRequest, RetireRequest, StatusRequest, Versions, WithdrawRequest
+from agent.service.operators import (
+    LogRequest, LostRequest, PruneRequest, RetireRequest, StatusRequest, Version, Versions, WithdrawRequest,
+)
 from agent.service.requests import (
     BuildRequest, Digests, ForgetRequest, Forgotten, NeededRequest, RunRequest, StorePlace, StoreRequest,
 )
 from agent.service.sockets import Connection, Handler, Service, group_of
 from agent.store.folder import is_old
+from agent.store.lasting import clock_of
 from agent.tools import farm_program
 from agent.transport.local import LocalTransport, Transport
 from agent.words import DIGEST, want_of
@@ -53,6 +57,7 @@ class Wanted:
     verbose: bool = False
     group: str | None = None  # whose members may ask, beside the home's owner
     while_used: bool = False
+    restored: bool = False  # the operator vouches for the coordinator's record, though the farm knows of a later one
 
 
 @dataclass
@@ -83,7 +88,9 @@ def check(wanted: Wanted) -> None:
         raise UsageFault(f"a node that is well may be silent for some seconds: --lease-timeout is at least {SILENT_LEAST:g}")
     if not wanted.broker and os.path.exists(mark):
         raise UsageFault(f"{home} is of a farm over a broker. If that farm is gone, remove {mark}")
-    if wanted.broker and wanted.coordinator and os.path.exists(mark) and not os.path.exists(f"{home}/record"):
+    if wanted.restored and (is_there(f"{home}/coordinator.sock") or not os.path.exists(f"{home}/key")):
+        raise UsageFault(f"--restored is for a coordinator that has ended, and whose key and record lie in {home}")
+    if wanted.broker and wanted.coordinator and os.path.exists(mark) and not os.path.exists(f"{home}/record") and not wanted.restored:
         raise UsageFault(f"{home} is of a farm whose coordinator has another home, or lost its record: a second one would give its tickets again")
     if wanted.broker and not os.path.exists(f"{home}/key") and not wanted.coordinator:
         raise UsageFault(f"{home}/key is missing: copy it from the coordinator's machine, by a way that nobody else can read")
@@ -106,7 +113,7 @@ def check_joined(home: str, hints: Hints) -> None:
 def check_contents(folder: str, hints: Hints) -> None:
     """Refuses a folder of contents that another farm has: each would forget what the other one needs."""
     mark = f"{folder}/farm"
-    os.makedirs(folder, exist_ok=True)
+    close_to_others(folder, None)
     try:
         with open(mark, "x") as file:
             file.write(hints.name())
@@ -116,28 +123,41 @@ def check_contents(folder: str, hints: Hints) -> None:
                 raise UsageFault(f"{folder} has the contents of another farm: name another --contents. If that farm is gone, remove {mark}") from None
 
 
+def close_to_others(folder: str, group: str | None) -> None:
+    """Makes a folder, or closes one, so that only its owner enters it, and a group whose members reach the sockets there: the key, and what a
+    build kept, is its owner's alone."""
+    os.makedirs(folder, mode=0o700, exist_ok=True)
+    here, mode = os.stat(folder), 0o750 if group else 0o700
+    if group and here.st_gid != group_of(group):
+        os.chown(folder, -1, group_of(group))
+    if here.st_mode & 0o777 != mode:
+        try:
+            os.chmod(folder, mode)
+        except PermissionError:
+            raise UsageFault(f"{folder} is another user's: name one of your own, or have its owner chmod it to {mode:o}") from None
+
+
 def setup_of(wanted: Wanted) -> Setup:
     check(wanted)
     program = farm_program()
-    os.makedirs(wanted.home, mode=0o700, exist_ok=True)
-    if wanted.group:  # its members reach the sockets; the key is its owner's alone
-        os.chown(wanted.home, -1, group_of(wanted.group))
-        os.chmod(wanted.home, 0o750)
+    close_to_others(wanted.home, wanted.group)
     key = make_key(f"{wanted.home}/key")
+    if wanted.restored:
+        renew_key(key)
     hints = Hints(key)
     check_joined(wanted.home, hints)
     if wanted.contents:
         check_contents(wanted.contents, hints)
     transport: Transport = LocalTransport()
     if wanted.broker:
-        transport = RedisTransport(wanted.broker, farm_name(hints))
+        transport = RedisTransport(wanted.broker, f"farm-{hints.lines_name()}")
 
     def log(text: str) -> None:
         if wanted.verbose:
             with contextlib.suppress(OSError):  # what the filters say counts, whether anybody hears of it or not
                 print(f"{time.strftime('%H:%M:%S')} {text}", file=sys.stderr, flush=True)
 
-    store = open_store(wanted.home, wanted.broker, wanted.contents, hints)
+    store = open_store(wanted.home, wanted.broker, wanted.contents, hints, "-".join(map(str, wanted.nodes)))
     if isinstance(store, RedisStore) and not store.keeps_well():
         tell("Redis doesn't sync what it is given (appendonly yes, appendfsync always): its crash can lose contents")
     return Setup(program=program, home=wanted.home, key=key, store=store, transport=transport, log=log)
@@ -152,6 +172,8 @@ def begin(wanted: Wanted) -> Served:
             _begin_coordinator(served, setup)
         for number in wanted.nodes:
             _begin_node(served, setup, number)
+        if served.coordinator:
+            served.coordinator.watch.settle(set(wanted.nodes))
         join(wanted, Hints(setup.key))
     except BaseException:
         served.stop()
@@ -160,10 +182,19 @@ def begin(wanted: Wanted) -> Served:
 
 
 def _begin_coordinator(served: Served, setup: Setup) -> None:
-    agent = CoordinatorAgent(setup, served.wanted.lease_timeout)
-    agent.talk.start()
+    wanted = served.wanted
+    agent = CoordinatorAgent(setup, wanted.lease_timeout, nodes=wanted.most, has_broker=bool(wanted.broker))
     served.coordinator = agent
+    agent.talk.start()
+    if wanted.restored:
+        lost = sum(map(len, agent.watch.restore().values()))
+        tell(
+            f"the farm is of a new generation: copy {setup.key} to the home of each of its nodes, and start them again. {lost} versions that are "
+            "known of the one before aren't in the record, and farm log --lost shows them"
+        )
+    agent.watch.begin()
     threading.Thread(target=agent.serve, daemon=True).start()
+    agent.watch.settle(set())
     _serve(served, "coordinator", lambda asked, link: answer_operator(agent, served.wanted, asked, link))
 
 
@@ -185,8 +216,12 @@ def _serve(served: Served, name: str, handler: Handler) -> None:
 
 def serve(wanted: Wanted) -> int:
     """Serves, and ends well whatever ends it."""
-    over = threading.Event()
+    over, leaving = threading.Event(), threading.Event()
     open_many()
+    if wanted.while_used:
+        signal.signal(signal.SIGUSR1, lambda *_: leaving.set())
+    elif wanted.coordinator:
+        take_over(wanted.home)
     served = begin(wanted)  # until it stands a signal ends this process at once
     for number in (signal.SIGINT, signal.SIGTERM, signal.SIGHUP):
         if signal.getsignal(number) != signal.SIG_IGN:  # whoever started it keeps it off, as nohup does
@@ -199,7 +234,7 @@ def serve(wanted: Wanted) -> int:
             open(mark, "w").close()  # it stands until a farm that people started has ended well: till then no command starts another in its place
         show("up", at_once=True)
         notify("READY=1")
-        _stand(served, over)
+        _stand(served, over, leaving)
     finally:
         notify("STOPPING=1")
         served.stop()
@@ -219,11 +254,28 @@ def notify(text: str) -> None:
             link.send(text.encode())
 
 
-def _stand(served: Served, over: threading.Event) -> None:
-    """Waits until it is told to end, or nobody uses it any more."""
+def take_over(home: str) -> None:
+    """Ends the farm that a command started here for itself, once nobody uses it."""
+    path, told = f"{home}/coordinator.sock", time.monotonic() + 1.0
+    if os.path.exists(f"{home}/served") or not is_there(path):
+        return
+    with contextlib.suppress(OSError, ValueError), open(f"{home}/pid") as file:
+        os.kill(int(file.read()), signal.SIGUSR1)
+    while os.path.exists(f"{home}/pid") and is_there(path):
+        if time.monotonic() > told:
+            tell(f"waiting for the farm that a command started in {home}: other commands use it yet")
+            told = math.inf
+        time.sleep(0.05)
+
+
+def _stand(served: Served, over: threading.Event, leaving: threading.Event) -> None:
+    """Waits until it is told to end, or nobody uses it any more: at once where another one takes it over."""
     wanted = served.wanted
     while not over.wait(0.5):
-        if wanted.while_used and not served.is_busy() and time.monotonic() - max(service.used for service in served.services) > IDLE:
+        if served.coordinator:
+            served.coordinator.watch.check()
+        idle = time.monotonic() - max(service.used for service in served.services)
+        if wanted.while_used and not served.is_busy() and (idle > IDLE or leaving.is_set()):
             for service in served.services:
                 service.close()
             over.wait(0.2)  # who asked just now is answered yet
@@ -268,7 +320,7 @@ def run_of(agent: NodeAgent, wanted: Wanted, request: RunRequest, link: Connecti
     job = Job(
         command=list(request.command), cwd=request.cwd, env=request.env, wants=[want_of(word) for word in request.folders],
         wait=request.wait, stops_when_lost=request.stops_when_lost, fenced_status=uncounted, lost_status=uncounted, must_commit=request.must_commit, umask=request.umask,
-        on_conflict=request.on_conflict, tells_conflicts=request.tells_conflicts,
+        on_conflict=request.on_conflict, tells_conflicts=request.tells_conflicts, is_warm=request.is_warm,
     )
     run = Run(agent, job, link)
     for path in run.paths.values():
@@ -279,7 +331,7 @@ def run_of(agent: NodeAgent, wanted: Wanted, request: RunRequest, link: Connecti
 
 def forget(agent: NodeAgent, needed: set[str], grace: float) -> int:
     """Forgets the contents of a node that aren't needed and are older than the grace, as far as its filter lets it. How many went."""
-    folder, oldest = f"{agent.home}/filter/contents", time.time() - grace
+    folder, oldest = f"{agent.home}/filter/contents", clock_of(agent.home) - grace
     found = [name for name in os.listdir(folder) if DIGEST.fullmatch(name)] if os.path.isdir(folder) else []
     gone = [name for name in found if name not in needed and is_old(f"{folder}/{name}", oldest)]
     return sum(not agent.call(line_of("forget", name)).is_refused for name in gone)
@@ -291,10 +343,13 @@ def answer_operator(agent: CoordinatorAgent, wanted: Wanted, request: object, li
         link.tell(agent.status(request.last))
     elif isinstance(request, LogRequest):
         link.tell(Versions(slots={slot: tuple(agent.versions(slot)) for slot in agent.slots_of(request.folder)}))
+    elif isinstance(request, LostRequest):
+        link.tell(Versions(slots={slot: tuple(Version(version=number, ticket=0, digest=some[number]) for number in sorted(some))
+                                  for slot, some in agent.watch.lost().items() if request.folder in (None, slot, slot.partition("#")[0])}))
     elif isinstance(request, WithdrawRequest):
         link.say(agent.operate("withdraw", str(request.ticket)))
     elif isinstance(request, RetireRequest):
-        link.say(agent.retire(request.node, request.is_gone))
+        link.say(agent.retire(request.node, request.is_gone, request.is_last_too))
     elif isinstance(request, PruneRequest):
         slots = agent.slots_of(request.folder)
         if not slots:

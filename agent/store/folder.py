@@ -9,14 +9,16 @@ import contextlib
 import fcntl
 import hashlib
 import os
-import time
 from typing import Callable, Iterator, Protocol
 
 from agent.faults import FarmFault
-from agent.store.chunks import chunk_names, chunk_path, chunk_sizes
-from agent.store.lasting import put_file
+from agent.store.chunks import chunk_names, chunk_path, chunk_sizes, folder_size
+from agent.store.holds import Holds
+from agent.store.lasting import clock_of, put_file
 from agent.store.packing import CHECKED, ChunkSpoilt, unpacked, wrong_names
 from agent.words import DIGEST, EMPTY
+
+LARGEST_CONTENT = 16 << 20  # bytes
 
 
 class ChunksMissing(FarmFault):
@@ -32,7 +34,11 @@ class Store(Protocol):
     def publish(self, index: bytes, away: Callable[[str], None] = lambda why: None, base: bytes = b"") -> str:
         """Keeps an index whose chunks are in the folder, and gives its digest. All of it lasts then. Why it isn't so yet `away` hears now and
         then, while a store that other machines share can't be reached. Each chunk is compared with its name before it is relied on. What the
-        index of a version that isn't forgotten meanwhile has, the `base`, isn't looked for in a shared store where it was found already."""
+        index of a version that isn't forgotten meanwhile has, the `base`, isn't looked for in a shared store where it was found already. It is
+        held, so that nothing of it is forgotten, until `release`."""
+
+    def release(self, digest: str, is_answered: bool = True) -> None:
+        """What `publish` kept isn't held any more: its commit was answered; or what came of that isn't known, and it is held for the grace."""
 
     def index(self, digest: str) -> bytes | None:
         """The index of a digest; none where it isn't here."""
@@ -60,6 +66,7 @@ class FolderStore:
 
     def __init__(self, root: str) -> None:
         self.root, self.chunks, self.indexes = root, f"{root}/chunks", f"{root}/indexes"
+        self.holds = Holds(f"{root}/holds")
         os.makedirs(self.chunks, exist_ok=True)
         os.makedirs(self.indexes, exist_ok=True)
 
@@ -76,10 +83,19 @@ class FolderStore:
         return self._locked(fcntl.LOCK_SH)
 
     def publish(self, index: bytes, away: Callable[[str], None] = lambda why: None, base: bytes = b"") -> str:
+        if len(index) > LARGEST_CONTENT:
+            raise FarmFault(
+                f"TooLarge: the content has {len(index)} bytes, and no line carries more than {LARGEST_CONTENT}. It is the index of a folder of "
+                f"{folder_size(index)} bytes: keep that in several folders"
+            )
         digest = hashlib.sha256(index).hexdigest()
         self.fetch(index)
+        self.holds.hold(digest)
         put_file(f"{self.indexes}/{digest}", index)
         return digest
+
+    def release(self, digest: str, is_answered: bool = True) -> None:
+        self.holds.release(digest, is_answered)
 
     def index(self, digest: str) -> bytes | None:
         if digest == EMPTY:
@@ -120,28 +136,34 @@ class FolderStore:
     def offer(self, digest: str) -> bool:
         return False  # all see one folder
 
-    def forget(self, needed: set[str], grace: float) -> tuple[int, int]:
-        """Removes each index that isn't needed and each chunk that no index left names, if it is older than the grace. Waits
-        until nobody makes anything; how many indexes and chunks went."""
+    def forget(self, ask: Callable[[], set[str]], grace: float, tell: Callable[[str], None] = lambda digest: None) -> tuple[int, int]:
+        """Removes each index that isn't needed or held, and each chunk that no index left names, if it is older than the grace. Waits until
+        nobody makes anything, and asks then what is needed; how many indexes and chunks went. Where a content that is needed can't be read
+        `tell` hears its digest, and of chunks only those go that what was removed had: the others may be its own."""
         with self._locked(fcntl.LOCK_EX):
-            oldest = time.time() - grace
+            held = self.holds.held(grace)  # before it is asked: what is answered meanwhile is needed then
+            needed = ask() | held
+            oldest = clock_of(f"{self.root}/lock") - grace
             gone = [d for d in os.listdir(self.indexes) if d not in needed and is_old(f"{self.indexes}/{d}", oldest)]
+            had = {name for digest in gone for name in chunk_names(self.index(digest) or b"")}
             for name in gone:
                 os.unlink(f"{self.indexes}/{name}")
-            used = set()
+            used, is_whole = set[str](), True
             for digest in os.listdir(self.indexes):
                 index = self.index(digest)
-                if index is None and digest in needed:
-                    raise FarmFault(f"the content {digest} isn't readable, so no chunk is forgotten ({len(gone)} indexes were)")
                 used.update(chunk_names(index or b""))
-            return len(gone), self._forget_chunks(used, oldest)
+                if index is None and digest in needed:
+                    tell(digest)
+                    is_whole = False
+            return len(gone), self._forget_chunks(used, oldest, None if is_whole else had)
 
-    def _forget_chunks(self, used: set[str], oldest: float) -> int:
+    def _forget_chunks(self, used: set[str], oldest: float, only: set[str] | None) -> int:
         count = 0
         for folder, _, names in os.walk(self.chunks):
             for name in names:  # also what a killed casync left: its names end otherwise
                 path = f"{folder}/{name}"
-                if name.removesuffix(".cacnk") not in used and is_old(path, oldest):
+                chunk = name.removesuffix(".cacnk")
+                if chunk not in used and (only is None or chunk in only) and is_old(path, oldest):
                     os.unlink(path)
                     count += 1
         return count

@@ -45,3 +45,9 @@ def put_file(path: str, data: bytes) -> None:
         os.unlink(beside)
         raise
     sync_folder(folder)
+
+
+def clock_of(path: str) -> float:
+    """The time of day by the clock of a file's file system, which may be another machine's. It takes no room, so that a full disk can be cleared."""
+    os.utime(path)
+    return os.stat(path).st_mtime

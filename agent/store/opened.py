@@ -14,9 +14,9 @@ def farm_name(hints: Hints) -> str:
     return f"farm-{hints.name()}"
 
 
-def open_store(home: str, broker: str | None, contents: str | None, hints: Hints) -> Store:
+def open_store(home: str, broker: str | None, contents: str | None, hints: Hints, owner: str = "") -> Store:
     """The folder of contents that is named; else the broker's Redis; else a folder of the home."""
     root = contents or f"{home}/contents"
     if not broker or contents:
         return FolderStore(root)
-    return RedisStore(broker, root, farm_name(hints))
+    return RedisStore(broker, root, farm_name(hints), owner)

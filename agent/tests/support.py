@@ -68,7 +68,9 @@ def kept(store: Store, path: str) -> tuple[bytes, str]:
     """Keeps what a folder holds. Its index, and the digest under which it lasts."""
     with store.making():
         index = make_whole(store, path)
-        return index, store.publish(index)
+        digest = store.publish(index)
+    store.release(digest)
+    return index, digest
 
 
 class Heard:

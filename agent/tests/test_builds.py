@@ -63,6 +63,30 @@ class Builds(support.FarmTest):
         unkept = self.farm("build", "--build-arg", "WHO=old", "-t", "app", "context", status=70).stderr
         self.assertRegex(unkept, "farm: image sha256:[0-9a-f]{64} is built, and isn't tagged\nfarm: /[^ ]+/f can't be kept: its time is before 1970\n")
 
+    @unittest.skipUnless(support.has("buildah"), support.needs("buildah"))
+    @unittest.skipUnless(support.has("busybox"), "busybox-static isn't installed")
+    @unittest.skipUnless(support.is_root and can_have_namespaces(), "buildah's chroot isolation is tried as root, with namespaces")
+    def test_merged(self) -> None:
+        """Builds whose SHARED mounts are merged run at once, and each finds what those before it left; buildah's own file isn't merged."""
+        shutil.copy(shutil.which("busybox") or "", self.path("context/busybox"))
+        self.write("context/work", "echo x > /m/$WHO; /bin/busybox sleep 2; /bin/busybox ls /m\n")
+        self.write("context/Dockerfile", """FROM scratch
+COPY busybox /bin/busybox
+COPY work /work
+ARG WHO
+RUN --mount=type=cache,id=m,target=/m,mode=0711 ["/bin/busybox", "sh", "/work"]
+""")
+        words = ["build", "--shared-as", "shared", "--shared-as", "m=merged"]
+        self.farm(*words, "--build-arg", "WHO=zero", "context")
+        runs = [self.begin(*words, "--build-arg", f"WHO={who}", "-t", who, "context") for who in ("one", "two")]
+        ends = [(run.communicate(timeout=support.PATIENCE), run.returncode) for run in runs]
+        self.assertEqual([status for _, status in ends], [0, 0], ends)
+        for (out, said), who in zip((end for end, _ in ends), ("one", "two")):
+            self.assertEqual([line for line in out.splitlines() if line in ("zero", "one", "two")], sorted(["zero", who], key=["one", "two", "zero"].index), said)
+            self.assertRegex(said, f"merged 1 path into locked:m version [23]\n(.*\n)*farm: image sha256:[0-9a-f]+ is tagged {who}")
+        self.asked("get", "locked:m", self.path("m"))
+        self.assertEqual((sorted(os.listdir(self.path("m"))), os.stat(self.path("m")).st_mode & 0o777), (["one", "two", "zero"], 0o711))
+
     def tags(self) -> None:
         """buildah takes the names that are taken here, and no other ones."""
         storage = Buildah(f"{self.home}/node1/containers").storage

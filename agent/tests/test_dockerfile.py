@@ -23,7 +23,7 @@ def base(name: str) -> Base:
     return Base({"BASEVAR": "b"}, [], ["/bin/bash", "-ec"])
 
 
-def planned(text: str, target: str | None = None, shared_as: str = "shared", **args: str) -> Plan:
+def planned(text: str, target: str | None = None, shared_as: tuple[str, ...] = (), **args: str) -> Plan:
     return plan(text, args, target, base, shared_as)
 
 
@@ -138,7 +138,9 @@ class Dockerfiles(unittest.TestCase):
 
     def test_shared_as(self) -> None:
         text = f"FROM box\nRUN {T},target=/a {T},target=/b,sharing=private true"
-        self.assertEqual([m.folder for m in planned(text, shared_as="locked").mounts], ["locked:/a", "private:/b"])
+        self.assertEqual([m.folder for m in planned(text, shared_as=("locked",)).mounts], ["locked:/a", "private:/b"])
+        self.assertEqual([m.folder for m in planned(text, shared_as=("locked", "/a=merged")).mounts], ["merged:/a", "private:/b"])
+        self.assertEqual([m.folder for m in planned(text, shared_as=("/b=merged",)).mounts], ["shared:/a", "private:/b"])
 
     def test_hostile_ids(self) -> None:
         for identifier in ("../../../etc", "/etc/passwd", "..", ".", "a/b", "x" * 4000, "a%0Ab", "é" * 2000, "a;b", "-rf"):

@@ -20,7 +20,7 @@ from agent.runs.caller import Patience
 from agent.filters.coordinator import CoordinatorAgent
 from agent.runs.executions import can_have_namespaces
 from agent.faults import ClientGone, FarmFault, LifeOver, WaitOver
-from agent.filters.lines import Answer
+from agent.filters.lines import Answer, Pauses
 from agent.filters.node import NodeAgent
 from agent.transport.redis_wire import Redis
 from agent.runs.run import Job, Run
@@ -540,7 +540,7 @@ class Streams(support.FarmTest):
         self.assertEqual((full.returncode, full.stderr), (70, "farm: the standard output: No space left on device\n"))
         left = [name for name in os.listdir(self.home) if name.endswith(".sock") or name in ("pid", "served")]
         self.assertEqual(left, [])
-        self.farm("run", *(word for number in range(16) for word in ("--folder", f"locked:{number}{'x' * 4096}=w{number}")), "--", "true")
+        self.farm("run", *(word for number in range(16) for word in ("--folder", f"locked:{number}{'x' * 4080}=w{number}")), "--", "true")
         gone = self.shell('{ "$@"; echo $? >&2; } | true', "status", "--json")
         self.assertEqual(gone.stderr, "farm: the standard output: Broken pipe\n70\n")
 
@@ -606,6 +606,7 @@ class StoreFault(support.RoomTest):
             agent.call("resend", 1)
         self.assertEqual((agent.talk.epoch, agent.call("resend", 2).note), (2, "resent"))
         later = agent.hints.seal(f"outdated 1 {agent.life + 1}")
+        agent.talk.pauses = Pauses()  # its filter ended as soon as it had begun
         with contextlib.redirect_stderr(io.StringIO()) as heard:
             agent.receive(later)
         self.assertEqual((agent.talk.epoch, "does another agent run as node 1?" in heard.getvalue()), (3, True))

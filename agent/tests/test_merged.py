@@ -311,6 +311,21 @@ class MergedFolders(support.FarmTest):
         self.assertIn("named twice", self.asked("run", "--folder", "locked:c=w", "--folder", "merged:c=v", "--", "true", status=64))
         self.assertIn("is no folder", self.asked("log", "merged:c", status=64))
 
+    def test_warm(self) -> None:
+        """A new PRIVATE folder begins as the last version of any, where that is asked for."""
+        holders = []
+        for n, script in enumerate(("touch p0/one", "touch p1/two")):  # each has an instance of its own
+            self.farm("run", "--folder", f"private:p=p{n}", "--", "sh", "-c", script)
+            holders.append(self.begin("run", "--folder", f"private:p=p{n}", "--", "sh", "-c", self.pause(str(n))))
+            self.wait_for(self.path(f"begun{n}"))
+        self.assertEqual(self.farm("run", "--folder", "private:p=q", "--", "sh", "-c", "ls q; exit 1", status=1).stdout, "")
+        warm = self.farm("run", "--warm", "--folder", "private:p=q", "--", "ls", "q")
+        self.assertEqual(warm.stdout, "two\n")
+        self.assertIn("private:p#3 begins as a version of another one", warm.stderr)
+        for n, run in enumerate(holders):
+            self.write(f"go{n}", "")
+            run.communicate(timeout=support.PATIENCE)
+
     def test_given_up(self) -> None:
         """Copies that nobody uses are kept warm, and not more than some."""
         home = f"{self.home}/node1/merged"

@@ -13,12 +13,13 @@ from typing import Any
 from unittest import mock
 
 from agent.folders import trees
+from agent.folders.index import make_whole
 from agent.store.chunks import chunk_names, chunk_path
 from agent.faults import ClientGone, FarmFault, Missing, UsageFault
 from agent.transport.hints import Hints, make_key
 from agent.transport.needs import Needs, parts
 from agent.store.packing import packed
-from agent.store.redis import RedisStore
+from agent.store.redis import HOLD, RedisStore
 from agent.transport.redis import RedisTransport
 from agent.transport.redis_wire import Redis, RedisAway, RedisFault
 from agent.store.folder import ChunksMissing
@@ -184,7 +185,9 @@ class OverRedis(Carries):
         """A server that goes away late in a long sending is waited for as well. One that never gets further isn't, for ever."""
         now, calls, faults, away = [0.0], list[str](), dict[int, int](), list[str]()
 
-        def call(commands: list[list[str]]) -> list[int]:
+        def call(commands: list[list[str]], most: int = 0) -> list[int]:
+            if commands[0][1] == HOLD:
+                return [1]
             now[0] += 50
             calls.append(commands[0][3])
             if faults.get(at := int(calls[-1][-1]), 0):
@@ -194,6 +197,7 @@ class OverRedis(Carries):
 
         store = RedisStore.__new__(RedisStore)
         store.server, store.farm, store.lock, store.compared = mock.Mock(calls=call), "t", threading.Lock(), {}
+        store.owner = store.own = ""
         module = "agent.store.redis"
         with (
             mock.patch(f"{module}.time.monotonic", lambda: now[0]), mock.patch(f"{module}.time.sleep"), mock.patch(f"{module}.AT_ONCE", 1),
@@ -220,12 +224,12 @@ class OverRedis(Carries):
             self.write("two/f", "b" * 300_000)
             _, one = support.kept(store, self.path("one"))
             _, two = support.kept(store, self.path("two"))
-            self.assertEqual(store.forget({one}, 3600), (0, 0))  # all is young
+            self.assertEqual(store.forget(lambda: {one}, 3600), (0, 0))  # all is young
             store.server.call("ZADD", "t:given", 5, f"t:index:{two}")
             store.server.call("SET", "t:chunk:" + "0" * 64, "of an agent that was killed")
-            indexes, chunks = store.forget({one}, 3600)  # what only that index named is young, but the chunk whose time nobody set
+            indexes, chunks = store.forget(lambda: {one}, 3600)  # what only that index named is young, but the chunk whose time nobody set
             self.assertEqual((indexes, chunks), (1, 1))
-            self.assertGreaterEqual(store.forget({one}, 0)[1], 1)
+            self.assertGreaterEqual(store.forget(lambda: {one}, 0)[1], 1)
             fresh = RedisStore(url, self.path("b"), "t")
             self.assertIsNone(fresh.index(two))
             trees.extract(fresh, fresh.index(one) or b"", self.path("out"))
@@ -235,14 +239,44 @@ class OverRedis(Carries):
             trees.extract(fresh, fresh.index(two) or b"", self.path("out2"))
             store.server.call("SET", f"t:index:{one}", "x")
             lone = RedisStore(url, self.path("c"), "t")
-            with self.assertRaisesRegex(FarmFault, "isn't readable, so no chunk .* prune that"):
-                lone.forget({one}, 0)
+            heard = list[str]()
+            self.assertEqual((lone.forget(lambda: {one}, 0, heard.append)[1], heard), (0, [one]))
             self.assertEqual(store.server.call("EXISTS", f"t:chunk:{chunk}"), 1)
+
+    @unittest.skipUnless(support.has("casync"), support.needs("casync"))
+    def test_held(self) -> None:
+        """What a commit under way names stays in Redis, whatever its clock says: from before its chunks are looked for until it is answered."""
+        with support.redis_server(self.room) as url:
+            self.write("one/f", "a" * 300_000)
+            maker, other = RedisStore(url, self.path("a"), "t", "1"), RedisStore(url, self.path("b"), "t")
+            with maker.making():
+                index = make_whole(maker, self.path("one"))
+                digest = maker.publish(index)
+            self.assertEqual(other.forget(set, -(10**9)), (0, 0))
+            other.server.call("SET", f"t:chunk:{'0' * 64}", "of an agent that was killed")
+            asked = list[int]()
+
+            def ask() -> set[str]:
+                asked.append(0)
+                if len(asked) == 1:  # a commit begins behind what was asked
+                    maker.release(digest)
+                    RedisStore(url, self.path("a"), "t", "2").publish(index)
+                return set()
+
+            self.assertEqual((other.forget(ask, -(10**9)), len(asked)), ((0, 1), 2))
+            later = RedisStore(url, self.path("a"), "t", "2")  # the agent of that commit was killed, and its next one has one answered
+            with later.making():
+                later.publish(index)
+            later.release(digest)
+            self.assertEqual(later.server.call("HLEN", "t:held"), 0)
+            self.assertEqual(other.forget(set, -(10**9))[0], 1)
 
     def test_password(self) -> None:
         with support.redis_server(self.room, "--requirepass", "a b") as url:
-            with self.assertRaisesRegex(Missing, "NOAUTH"):
+            with self.assertRaisesRegex(Missing, "the Redis server at redis://127.0.0.1:[0-9]+ refuses: NOAUTH"):
                 Redis(url)
+            with self.assertRaisesRegex(Missing, "refuses: WRONGPASS"):
+                Redis(url.replace("//", "//:wrong@"))
             Redis(url.replace("//", "//:a%20b@") + "/3").call("SET", "x", 5)
             self.assertEqual(Redis(url.replace("//", "//default:a%20b@") + "/3").call("GET", "x"), b"5")
         with self.assertRaisesRegex(Missing, "no Redis server answers at redis://127.0.0.1:1: Connection refused"):
@@ -283,12 +317,29 @@ class Servers(unittest.TestCase):
         for said in strange:
             store = RedisStore.__new__(RedisStore)
             store.server, store.farm, store.folder, store.lock = mock.Mock(), "t", mock.Mock(index=lambda digest: None), threading.Lock()
-            store.server.call = lambda *words: said
-            store.server.calls = lambda commands: [said] * len(commands)
+            store.server.call = lambda *words, most=0: said
+            store.server.calls = lambda commands, most=0: [said] * len(commands)
             self.assertFalse(store.keeps_well())
             with contextlib.suppress(FarmFault):
-                self.assertEqual(store.forget(set(), 0), (0, 0))
+                self.assertEqual(store.forget(lambda: set(), 0), (0, 0))
             self.assertIsNone(store.index("0" * 64))
+
+    def test_bounded(self) -> None:
+        """A reply is bounded by what was asked for: what is longer is a fault before it is taken."""
+        with socket.create_server(("127.0.0.1", 0)) as server:
+            def answers() -> None:
+                for _ in range(2):
+                    link, _ = server.accept()
+                    with link, contextlib.suppress(OSError):
+                        link.recv(1000)
+                        link.sendall(b"$3000000\r\n" + bytes(3_000_000) + b"\r\n")
+
+            thread = threading.Thread(target=answers)
+            thread.start()
+            with self.assertRaisesRegex(RedisFault, "too long"):
+                server_of(server.getsockname()[1]).call("GET", "x")
+            self.assertEqual(len(server_of(server.getsockname()[1]).call("GET", "x", most=3_000_000)), 3_000_000)
+            thread.join()
 
     def test_loads(self) -> None:
         """A server that still loads its data is waited for."""

@@ -13,7 +13,7 @@ import unittest
 from typing import Callable
 from unittest import mock
 
-from agent.folders import trees
+from agent.folders import claims, trees
 from agent.store.chunks import chunk_names, chunk_path
 from agent.faults import FarmFault
 from agent.transport.hints import make_key
@@ -227,6 +227,13 @@ class Trees(support.RoomTest):
             trees.extract(self.store, index, self.path(f"out{number}"))
             self.assertEqual(told(self.path(f"out{number}")), told(tree))
 
+    def test_too_large(self) -> None:
+        """A content that no line carries is refused by name, before it is finished."""
+        index = support.kept(self.store, self.tree())[0]
+        with mock.patch("agent.store.folder.LARGEST_CONTENT", len(index) - 1), self.assertRaisesRegex(FarmFault, "TooLarge: the content has .* several folders"):
+            self.store.publish(index)
+        support.kept(self.store, self.path("tree"))
+
     def test_synced_first(self) -> None:
         """No chunk has its name before its bytes are on the device, and its folder is before the index is."""
         done = list[str]()
@@ -253,15 +260,42 @@ class Trees(support.RoomTest):
     def test_forget_meanwhile(self) -> None:
         """What gets its whole name, or is forgotten by another one, while it is looked for is no fault."""
         with mock.patch("os.walk", return_value=[(self.store.chunks, [], [".new-x"])]), mock.patch("os.listdir", return_value=["0" * 64]):
-            self.assertEqual(self.store.forget(set(), -10), (0, 0))
+            self.assertEqual(self.store.forget(lambda: set(), -10), (0, 0))
 
     def test_forget_damaged(self) -> None:
         """Chunks of a content that is needed stay, though its index can't be read: a filter may have it."""
         index, digest = support.kept(self.store, self.tree())
         put_file(f"{self.store.indexes}/{digest}", b"damaged")
-        with self.assertRaisesRegex(FarmFault, "isn't readable"):
-            self.store.forget({digest}, -1)
+        heard = list[str]()
+        self.assertEqual((self.store.forget(lambda: {digest}, -1, heard.append)[1], heard), (0, [digest]))
         trees.extract(self.store, index, self.path("out"))
+
+    def test_held(self) -> None:
+        """What is held isn't forgotten, however old its files are; of a process that ended amid a commit it is for the grace, by no clock of day."""
+        self.write("one/f", "a" * 300_000)
+        with self.store.making():
+            digest = self.store.publish(make_whole(self.store, self.path("one")))
+        self.assertEqual(self.store.forget(set, -1), (0, 0))
+        trees.extract(self.store, self.store.index(digest) or b"", self.path("out"))
+        self.store.release(digest, is_answered=False)
+        for folder, _, names in os.walk(self.path("store")):
+            for name in names:
+                os.utime(f"{folder}/{name}", (1, 1))
+        self.assertEqual(FolderStore(self.path("store")).forget(set, 3600), (0, 0))
+        indexes, chunks = FolderStore(self.path("store")).forget(set, -1)
+        self.assertEqual((indexes, bool(chunks), os.listdir(self.path("store/holds"))), (1, True, []))
+
+    def test_answered_meanwhile(self) -> None:
+        """A commit that is answered while gc goes on is needed: holds are looked at first, and what is needed is asked then."""
+        self.write("one/f", "a" * 300_000)
+        with self.store.making():
+            digest = self.store.publish(make_whole(self.store, self.path("one")))
+
+        def ask() -> set[str]:
+            self.store.release(digest)  # it is answered just behind what the coordinator told
+            return set()
+
+        self.assertEqual(self.store.forget(ask, -1), (0, 0))
 
     def test_forget(self) -> None:
         self.write("one/f", "a" * 300_000)
@@ -269,8 +303,8 @@ class Trees(support.RoomTest):
         one, digest = support.kept(self.store, self.path("one"))
         _, other = support.kept(self.store, self.path("two"))
         self.write(f"store/chunks/0000/{'0' * 64}.tmp", "left by a killed casync")
-        self.assertEqual(self.store.forget({digest}, 3600), (0, 0))
-        indexes, chunks = self.store.forget({digest}, -1)
+        self.assertEqual(self.store.forget(lambda: {digest}, 3600), (0, 0))
+        indexes, chunks = self.store.forget(lambda: {digest}, -1)
         self.assertEqual(indexes, 1)
         self.assertGreaterEqual(chunks, 2)
         self.assertIsNone(self.store.index(other))
@@ -465,6 +499,39 @@ class Paths(support.RoomTest):
         other.kill()
         other.communicate()
         self.assertTrue(self.is_free(copied, self.path("w")))
+
+    @unittest.skipUnless(support.is_root and support.has("unshare"), "it needs root")
+    def test_across_namespaces(self) -> None:
+        """A path is held against agents in other network namespaces, and nobody else can take the place of who holds it."""
+        if subprocess.run(["unshare", "-n", "true"], capture_output=True).returncode:
+            self.skipTest("the kernel gives no network namespace")
+        text = (
+            f"import sys, time; sys.path.insert(0, {support.TOP!r})\n"
+            "from agent.folders.places import Places\n"
+            f"with Places({self.path('home')!r}).held({self.path('w/a')!r}):\n"
+            "    print('held', flush=True); time.sleep(600)\n"
+        )
+        other = subprocess.Popen(["unshare", "-n", sys.executable, "-c", text], stdout=subprocess.PIPE, text=True)
+        assert other.stdout
+        other.stdout.readline()
+        free = [self.is_free(Places(self.path("home2")), self.path(name)) for name in ("w", "w/a", "w/a/b", "w/b")]
+        other.kill()
+        other.communicate()
+        self.assertEqual(free, [False, False, False, True])
+        self.assertEqual(os.stat(claims.place()).st_mode & 0o777, 0o700)
+
+    @unittest.skipUnless(support.is_root, "it needs root")
+    def test_of_another_user(self) -> None:
+        """An empty folder that another user made is owned anew."""
+        os.mkdir(self.path("w"))
+        os.chmod(self.path("w"), 0o777)
+        os.chown(self.path("w"), 12345, 12345)
+        Places(self.path("home")).clear(self.path("w"))
+        here = os.stat(self.path("w"))
+        self.assertEqual((here.st_uid, here.st_mode & 0o022), (0, 0))
+        with mock.patch("os.rmdir", side_effect=PermissionError), mock.patch("os.geteuid", return_value=1):
+            with self.assertRaisesRegex(FarmFault, "another user's folder"):
+                Places(self.path("home3")).clear(self.path("w"))
 
     def test_held_within(self) -> None:
         """A path is held also against agents of other homes that want what is around it, however deep it lies."""

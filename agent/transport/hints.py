@@ -1,5 +1,5 @@
 """What agents tell each other beside the filters' messages: a lease has ended, who holds a folder, a node is heard, a content is missed,
-nobody waits for an ask.
+nobody waits for an ask, which tickets and versions are known.
 
 Owes the filters that nothing of it reaches them. A hint changes only what people are shown and how early a lost execution stops. Hints
 are sealed, under a key that is derived from the farm's, so that nothing an agent seals opens as a message of a filter.
@@ -10,11 +10,14 @@ import contextlib
 import hashlib
 import hmac
 import os
+import re
 import secrets
 
 from agent.faults import named
+from agent.store.lasting import put_file
 
 FRONT = "hint "
+LATER = re.compile(rb"[0-9a-f]{64}\n([0-9a-f]{16}) later generation")  # the key's file of a later generation
 
 
 def make_key(path: str) -> str:
@@ -38,6 +41,15 @@ def make_key(path: str) -> str:
     return path
 
 
+def renew_key(path: str) -> None:
+    """Makes the farm one of a new generation: nothing that was sealed before opens any more, and what the farm keeps has its old name. The
+    old key stays beside it."""
+    hints = Hints(path)
+    with open(path, "rb") as file:
+        put_file(f"{path}.{hints.generation()}", file.read())
+    put_file(path, f"{secrets.token_hex(32)}\n{hints.name()} later generation\n".encode())
+
+
 class Hints:
     """Seals and opens hints."""
 
@@ -45,10 +57,20 @@ class Hints:
         with open(key_path, "rb") as file:
             key = file.read().removesuffix(b"\n")
         self.key = hmac.new(key, b"hints of agents", hashlib.sha256).digest()
+        later = LATER.fullmatch(key)
+        self.farm = later[1].decode() if later else ""  # of a later generation: the first one's name
 
     def name(self) -> str:
-        """A name for what the farm keeps in places that farms share: no two keys have one."""
+        """A name for what the farm keeps in places that farms share: no two first keys have one."""
+        return self.farm or self.generation()
+
+    def generation(self) -> str:
+        """A name of the farm's generation: of its key."""
         return hmac.new(self.key, b"name", hashlib.sha256).hexdigest()[:16]
+
+    def lines_name(self) -> str:
+        """A name for where the generation's lines go."""
+        return f"{self.farm}-{self.generation()}" if self.farm else self.generation()
 
     def _mac(self, text: str) -> str:
         return hmac.new(self.key, text.encode(), hashlib.sha256).hexdigest()

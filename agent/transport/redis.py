@@ -65,12 +65,12 @@ class RedisTransport:
     def _read(self, address: str, timeout: float) -> list[str]:
         stream = self._stream(address)
         if address not in self.places:
-            ends = self.server.call("XREVRANGE", stream, "+", "-", "COUNT", 1)
+            ends = self.server.call("XREVRANGE", stream, "+", "-", "COUNT", 1, most=2 * MOST)
             self.places[address] = ends[0][0] if ends else START
         waited = max(1, int(timeout * 1000))
         got, ends = self.server.calls([
             ("XREAD", "COUNT", AT_ONCE, "BLOCK", waited, "STREAMS", stream, self.places[address]), ("XREVRANGE", stream, "+", "-", "COUNT", 1),
-        ])
+        ], most=(AT_ONCE + 2) * MOST)
         if not got and _order(ends[0][0] if ends else START) < _order(self.places[address]):
             self.places[address] = START  # the server lost the stream, and its clock is behind: what comes would never be read
         lines = []

@@ -13,7 +13,7 @@ from typing import Any, Sequence
 
 from agent.faults import Missing, UsageFault
 
-MOST = 512 << 20  # bytes of all values that come together: more than sixteen of the longest lines
+SMALL = 1 << 20  # bytes of all values that come together, where nobody asked for more
 ITEM = 64  # bytes that an item of a list counts for
 DEPTH = 8  # of lists within lists
 PATIENCE = 8.0  # seconds in which some byte has to come
@@ -25,6 +25,10 @@ Reply = Any  # bytes, int, None, or a list of replies
 
 class RedisFault(Exception):
     """The server can't be reached, or refuses."""
+
+
+class RedisRefuses(RedisFault):
+    """The server is there, and lets nobody in by these words."""
 
 
 class RedisAway(RedisFault):
@@ -42,7 +46,7 @@ class Link:
             made = ssl.create_default_context().wrap_socket(made, server_hostname=host)
         self.socket = made
         self.stream = made.makefile("rb")
-        self.left = MOST  # bytes that may come yet
+        self.left = SMALL  # bytes that may come yet
         first: list[Sequence[Word]] = []
         if url.password:
             user = [urllib.parse.unquote(url.username)] if url.username else []
@@ -52,15 +56,16 @@ class Link:
         try:
             for reply in self.calls(first):
                 if isinstance(reply, RedisFault):
-                    raise reply
+                    raise RedisRefuses(str(reply))
         except BaseException:
             self.close()
             raise
 
-    def calls(self, commands: Sequence[Sequence[Word]]) -> list[Reply]:
-        """Sends commands together, and gives the reply to each. One that was refused has a fault in its place."""
+    def calls(self, commands: Sequence[Sequence[Word]], most: int = SMALL) -> list[Reply]:
+        """Sends commands together, and gives the reply to each, which together have at most so many bytes. One that was refused has a fault in its
+        place."""
         self.socket.sendall(b"".join(spelled(command) for command in commands))
-        self.left = MOST
+        self.left = most
         return [self._reply(DEPTH) for _ in commands]
 
     def _line(self) -> bytes:
@@ -121,8 +126,9 @@ class Redis:
         try:
             self._greet(time.monotonic() + LOADS)
         except RedisFault as why:
-            # without the password
-            raise Missing(f"no Redis server answers at {self.url.scheme}://{self.url.netloc.rpartition('@')[2]}: {why}") from None
+            where = f"{self.url.scheme}://{self.url.netloc.rpartition('@')[2]}"  # without the password
+            is_away = isinstance(why, RedisAway)
+            raise Missing(f"no Redis server answers at {where}: {why}" if is_away else f"the Redis server at {where} refuses: {why}") from None
 
     def _greet(self, late: float) -> None:
         while True:
@@ -134,26 +140,30 @@ class Redis:
                     raise
             time.sleep(0.1)
 
-    def calls(self, commands: Sequence[Sequence[Word]]) -> list[Reply]:
-        """The replies to commands that are sent together, maybe twice. The first that was refused is a fault."""
+    def calls(self, commands: Sequence[Sequence[Word]], most: int = SMALL) -> list[Reply]:
+        """The replies to commands that are sent together, maybe twice. The first that was refused is a fault. More bytes than were asked for are
+        one too."""
         with self.lock:
             idle = self.idle.pop() if self.idle else None
         try:
-            replies = self._exchange(idle, commands)
+            replies = self._exchange(idle, commands, most)
         except RedisFault:
             if idle is None:
                 raise
-            replies = self._exchange(None, commands)  # the server may have ended what idled
+            replies = self._exchange(None, commands, most)  # the server may have ended what idled
         for reply in replies:
             if isinstance(reply, RedisFault):
                 raise reply
         return replies
 
-    def _exchange(self, link: Link | None, commands: Sequence[Sequence[Word]]) -> list[Reply]:
+    def _exchange(self, link: Link | None, commands: Sequence[Sequence[Word]], most: int) -> list[Reply]:
         """The replies over a link, a new one where none is given."""
         try:
             link = link or Link(self.url)
-            replies = link.calls(commands)
+            replies = link.calls(commands, most)
+        except RedisRefuses:
+            self._drop(link)
+            raise
         except (OSError, ValueError, RedisFault) as why:
             self._drop(link)
             raise RedisAway(getattr(why, "strerror", None) or str(why) or type(why).__name__) from None
@@ -175,5 +185,5 @@ class Redis:
         for each in [*old, *([link] if link else [])]:
             each.close()
 
-    def call(self, *words: Word) -> Reply:
-        return self.calls([words])[0]
+    def call(self, *words: Word, most: int = SMALL) -> Reply:
+        return self.calls([words], most)[0]

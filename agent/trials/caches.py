@@ -125,13 +125,12 @@ def fill_gomod(folder: str) -> None:
 
 
 def gomod_job(packages: list[int]) -> str:
-    needs = "".join(f"require x.test/p{n} v1.0.0\n" for n in packages)
-    imports = "".join(f'import "x.test/p{n}"\n' for n in packages)
+    needs = "".join(f"require x.test/p{n} v1.0.0\\n" for n in packages)
+    files = " ".join(f"$C/x.test/p{n}@v1.0.0/p.go" for n in packages)
     return (
-        "export GOMODCACHE=$C GOCACHE=$PWD/cache GOPROXY=$U GOSUMDB=off GOFLAGS='-trimpath -mod=mod' HOME=$PWD\n"
+        "export GOMODCACHE=$C GOPROXY=$U GOSUMDB=off GOFLAGS=-mod=mod HOME=$PWD\n"
         f"printf 'module m\\ngo 1.19\\n{needs}' > go.mod\n"
-        f"cat > main.go <<'X'\npackage main\n{imports}func main() {{ println({' + '.join(f'p{n}.N' for n in packages)}) }}\nX\n"
-        "go run . 2>&1 | grep -v download"
+        f"go mod download >/dev/null && go mod verify && cat {files} | sha256sum"
     )
 
 

@@ -2,7 +2,7 @@
 """Measures the agent on this machine, in one run: what `farm run` costs beside the command, a folder of a gigabyte, one of two in many
 files, and a source package built on three nodes with ccache in a leased folder, beside other places for it.
 
-usage: agent/trials/measure.py [start] [folder] [many] [modes] [burst] [package SOURCE.tar.gz [MAKE WORDS..]]
+usage: agent/trials/measure.py [start] [folder] [many] [modes] [burst] [rounds SOURCE.tar.gz] [package SOURCE.tar.gz [MAKE WORDS..]]
 """
 from __future__ import annotations
 
@@ -261,11 +261,77 @@ def burst(room: str, size: int = 8_000) -> None:
         row("greatest memory of an agent", f"{max(most.values()):.0f} MB")
 
 
+REVISIONS, CHANGED = 6, 5  # builds of each node; files that each of them changes for all nodes
+
+COMPILE = """cd {work} && for file in *.c; do {compiler} -O2 -DLUA_USE_LINUX -c $file -o ${{file%c}}o || exit 1; done"""
+
+
+class Revisions:
+    """A package's C files, as each of four nodes builds them in six revisions: five files differ from revision to revision, and one from node
+    to node."""
+
+    def __init__(self, room: str, source: str) -> None:
+        self.room = room
+        os.makedirs(f"{room}/source")
+        subprocess.run(["tar", "-xf", source, "-C", f"{room}/source", "--strip-components=1"], check=True)
+        folders = [folder for folder, _, files in os.walk(f"{room}/source") if any(name.endswith(".c") for name in files)]
+        self.tree = max(folders, key=lambda folder: len(os.listdir(folder)))
+        self.files = sorted(name for name in os.listdir(self.tree) if name.endswith(".c"))
+
+    def made(self, name: str, node: int, revision: int) -> str:
+        work = f"{self.room}/{name}/{node}.{revision}"
+        shutil.copytree(self.tree, work)
+        texts = [(number * CHANGED + k, f"int farm_{number}(void) {{ return {number}; }}") for number in range(1, revision + 1) for k in range(CHANGED)]
+        for place, text in [*texts, (node * 7 + revision, f"int farm_of_{node}_{revision}(void) {{ return 0; }}")]:
+            with open(f"{work}/{self.files[place % len(self.files)]}", "a") as file:
+                file.write(f"\n{text}\n")
+        return work
+
+    def run(self, name: str, mode: str | None, farm: Apart | None, env: dict[str, str]) -> None:
+        """All builds of a kind: how long they took, and of how many files a result was found, in the first revision and later."""
+        works = {(node, revision): self.made(name, node, revision) for node in range(1, 5) for revision in range(REVISIONS)}
+        extra = ["--warm"] if name == "private-warm" else []
+
+        def build(node: int) -> None:
+            for revision in range(REVISIONS):
+                work, cache = works[node, revision], f"{self.room}/{name}-cache{node}"
+                script = COMPILE.format(work=work, compiler="gcc" if name == "none" else "ccache gcc")
+                given = {"CCACHE_DIR": cache, "CCACHE_STATSLOG": f"{work}/log", "CCACHE_NOHASHDIR": "1", "CCACHE_BASEDIR": work, **env}
+                words = ["sh", "-c", script]
+                if farm:
+                    words = farm.run(node, f"{mode}:cc={cache}", *words)
+                    words[2:2] = extra
+                seconds(words, given)
+
+        begun = time.perf_counter()
+        with ThreadPoolExecutor(4) as pool:
+            list(pool.map(build, range(1, 5)))
+        took = time.perf_counter() - begun
+        told = []
+        for revisions in ([0], range(1, REVISIONS)):
+            logs = [f"{works[node, revision]}/log" for node in range(1, 5) for revision in revisions]
+            lines = [line for log in logs if os.path.exists(log) for line in Path(log).read_text().split()]
+            found, missed = sum(line in ("direct_cache_hit", "preprocessed_cache_hit") for line in lines), lines.count("cache_miss")
+            told.append(f"{found} of {found + missed}")
+        row(f"24 builds on 4 nodes, {name}", f"{took:.1f} s", f"hits at first {told[0]}, then {told[1]}")
+
+
+def rounds(room: str, source: str) -> None:
+    made = Revisions(room, source)
+    made.run("none", None, None, {})
+    with redis_server(room, "--appendonly", "yes", "--appendfsync", "always") as url:
+        made.run("redis", None, None, {"CCACHE_REMOTE_STORAGE": url})
+    for name in ("merged", "private-warm", "private", "locked"):
+        with apart(room, 4) as farm:
+            made.run(name, name.partition("-")[0], farm, {})
+
+
 def main() -> int:
     words = sys.argv[1:]
     source = words[words.index("package") + 1 :] if "package" in words else []
+    tar = os.path.abspath(words.pop(words.index("rounds") + 1)) if "rounds" in words else ""
     print(f"load {os.getloadavg()[0]:.1f}, {os.cpu_count()} processors", flush=True)
-    jobs: dict[str, Callable[[str], None]] = {"start": start, "folder": folder, "many": many, "modes": modes, "burst": burst, "package": lambda room: package(room, os.path.abspath(source[0]), source[1:])}
+    jobs: dict[str, Callable[[str], None]] = {"start": start, "folder": folder, "many": many, "modes": modes, "burst": burst, "rounds": lambda room: rounds(room, tar), "package": lambda room: package(room, os.path.abspath(source[0]), source[1:])}
     for name, job in jobs.items():
         if name in words[: len(words) - len(source)]:
             with tempfile.TemporaryDirectory(prefix="farm-") as room:

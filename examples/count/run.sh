@@ -1,6 +1,7 @@
 #!/usr/bin/env bash
 # Six commands each add one to a number in a folder, three on each of two nodes: first in a folder that both see, then in one that a
-# farm leases. Then one on each adds 100 rows to SQLite's database. Prints what there is at the end. Status 0 where the farm lost nothing.
+# farm leases. Then one on each adds 100 rows to SQLite's database. Last, where it may make mount namespaces, six at once each add a file
+# for a second, in a merged folder. Prints what there is at the end. Status 0 where the farm lost nothing.
 #
 # usage: examples/count/run.sh
 set -euo pipefail
@@ -28,6 +29,7 @@ times() {
 alone() { "$here/count.sh" "$room/plain"; }
 alone_rows() { "$here/rows.py" "$room/plain" "$2"; }
 leased() { "$top/farm" run --node "$1" --folder "locked:count=$room/w$2" -- "$here/count.sh" "$room/w$2"; }
+merged() { "$top/farm" run --node "$1" --folder "merged:files=$room/m" -- sh -c "sleep 1; echo $2 > $room/m/$2"; }
 leased_rows() { "$top/farm" run --node "$1" --folder "locked:rows=$room/r$2" -- "$here/rows.py" "$room/r$2" "$2"; }
 
 # Adds the numbers that are written one a line.
@@ -62,5 +64,13 @@ if [ -n "$has_sqlite" ]; then
   rows=$("$here/rows.py" "$room/rows" count)
   printf 'leased folders: SQLite confirmed %s rows, and %s are there\n' "$confirmed" "$rows"
   [ "$confirmed $rows" = '200 200' ]
+fi
+if [ "$(id -u)" = 0 ] && unshare -pm true 2>/dev/null; then
+  begun=$SECONDS
+  times 6 merged
+  "$top/farm" get locked:files "$room/files"
+  files=$(find "$room/files" -type f | wc -l)
+  printf 'a merged folder: 6 commands of a second at once added a file, and %s are there after %s seconds\n' "$files" $((SECONDS - begun))
+  [ "$files" = 6 ]
 fi
 [ "$number" = 6 ]
