@@ -21,7 +21,7 @@ SHORTEST = 20  # characters of what the kernel calls a mount's root, if it is a 
 
 class _Link(http.client.HTTPConnection):
     def __init__(self, path: str) -> None:
-        super().__init__("docker", timeout=60.0)
+        super().__init__("docker", timeout=20.0)
         self.path = path
 
     def connect(self) -> None:
@@ -57,6 +57,10 @@ class Engine:
         told = str(self.ask("/version")["Version"])
         front = told.partition(".")[0]
         return (int(front) if front.isdigit() else 0), told
+
+    def is_named(self, image: str) -> bool:
+        """Whether an image has a tag."""
+        return bool((self.ask(f"/images/{quote(image, safe='/:@')}/json") or {}).get("RepoTags"))
 
     def config_of(self, image: str) -> dict[str, Any] | None:
         """What an image that the daemon has says of its containers."""
