@@ -181,14 +181,18 @@ class Docker:
         return []
 
     def sweep(self, rooms: list[str]) -> None:
-        try:
+        with contextlib.suppress(FarmFault, OSError):
+            self.engine.version()  # a daemon that doesn't answer is swept another time
             for room in rooms:
-                if os.path.exists(f"{room}/docker-image"):
-                    with open(f"{room}/docker-image") as file:
-                        self._done("", "image", "rm", file.read().strip())  # refused where it has several tags
-        except (FarmFault, OSError):
-            pass  # another time, or by its owner
-        self._drop_old(self.ids.slots())
+                self._drop_image(f"{room}/docker-image")
+            self._drop_old(self.ids.slots())
+
+    def _drop_image(self, path: str) -> None:
+        """Removes the image that a killed build had made, unless it has a tag already."""
+        with contextlib.suppress(FarmFault, OSError), open(path) as file:
+            name = file.read().strip()
+            if not self.engine.is_named(name):
+                self._done("", "image", "rm", name)
 
     # Mounts.
 

@@ -16,11 +16,12 @@ from urllib.parse import quote
 from agent.faults import FarmFault
 
 UNIX = "unix://"
+SHORTEST = 20  # characters of what the kernel calls a mount's root, if it is a directory of BuildKit's
 
 
 class _Link(http.client.HTTPConnection):
     def __init__(self, path: str) -> None:
-        super().__init__("docker", timeout=60.0)
+        super().__init__("docker", timeout=20.0)
         self.path = path
 
     def connect(self) -> None:
@@ -57,6 +58,10 @@ class Engine:
         front = told.partition(".")[0]
         return (int(front) if front.isdigit() else 0), told
 
+    def is_named(self, image: str) -> bool:
+        """Whether an image has a tag."""
+        return bool((self.ask(f"/images/{quote(image, safe='/:@')}/json") or {}).get("RepoTags"))
+
     def config_of(self, image: str) -> dict[str, Any] | None:
         """What an image that the daemon has says of its containers."""
         told = self.ask(f"/images/{quote(image, safe='/:@')}/json")
@@ -84,17 +89,17 @@ def host_path(mark: str, root: str, device: int, number: int) -> str:
 
 
 def users_of(paths: list[str]) -> Iterator[int]:
-    """The processes of build steps that have one of these directories mounted."""
-    own = os.readlink("/proc/self/ns/mnt")
+    """The processes that have one of these directories mounted in a mount namespace of their own, as build steps do."""
+    has: dict[str, bool] = {os.readlink("/proc/self/ns/mnt"): False}
     for name in filter(str.isdigit, os.listdir("/proc")):
         with contextlib.suppress(OSError):
-            with open(f"/proc/{name}/cgroup") as file:
-                is_step = "/buildkit/" in file.read()
-            if is_step and os.readlink(f"/proc/{name}/ns/mnt") != own:
+            space = os.readlink(f"/proc/{name}/ns/mnt")
+            if space not in has:
                 with open(f"/proc/{name}/mountinfo") as file:
                     roots = [row.split(" ")[3] for row in file]
-                if any(len(root) > 20 and path.endswith(root) for root in roots for path in paths):
-                    yield int(name)
+                has[space] = any(len(root) > SHORTEST and path.endswith(root) for root in roots for path in paths)
+            if has[space]:
+                yield int(name)
 
 
 def end_users(paths: list[str]) -> None:
