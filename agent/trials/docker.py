@@ -100,10 +100,20 @@ class Daemon:
             except subprocess.TimeoutExpired:
                 self.process.kill()
                 self.process.wait()
+        self.end_steps()
         with open("/proc/self/mountinfo") as file:
             left = [row.split(" ")[4] for row in file if row.split(" ")[4].startswith(f"{self.home}/")]
         for path in sorted(left, reverse=True):
             subprocess.run(["umount", "-l", path], capture_output=True)
+
+
+    def end_steps(self) -> None:
+        """Kills steps that outlived the daemon: those that have one of its directories at /c, which may be removed."""
+        for path in Path("/proc").glob("[0-9]*/mountinfo"):
+            with contextlib.suppress(OSError):
+                rows = [row.split(" ") for row in path.read_text().splitlines()]
+                if any(row[4] == "/c" and f"{self.home}/data/" in row[3] for row in rows):
+                    os.kill(int(path.parent.name), signal.SIGKILL)
 
 
 class Trial:
