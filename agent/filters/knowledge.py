@@ -76,7 +76,11 @@ class Knowledge:
                 return
             self.is_changed, self.saved = False, time.monotonic()
             data = json.dumps({"of": self.generation, "ticket": self.ticket, "versions": self.versions}).encode()
-        put_file(self.path, data)
+        try:
+            put_file(self.path, data)
+        except OSError:  # as on a full disk: it is tried again
+            with self.lock:
+                self.is_changed = True
 
 
 class Stored(NamedTuple):

@@ -91,8 +91,7 @@ def claim(path: str) -> list[Claim] | None:
                 break
             claims.append(held.enter_context(made))
             if each != path:
-                with contextlib.suppress(FileExistsError):
-                    os.mkdir(each)
+                os.makedirs(each, exist_ok=True)
         else:
             held.pop_all()
             return claims

@@ -213,7 +213,7 @@ class Places:
         """How much a version holds, in words, where it is in memory."""
         version = self.versions.find(digest)
         sizes = [entry.size for entry in version.listing.values() if entry.kind == "f"] if version else []
-        return f": {len(sizes)} file{'s' * (len(sizes) != 1)}, {sum(sizes)} bytes" if version else ""
+        return f" ({len(sizes)} file{'s' * (len(sizes) != 1)}, {sum(sizes)} bytes)" if version else ""
 
     def _held(self, path: str) -> Held:
         """What is known of what a path holds."""

@@ -19,7 +19,7 @@ from agent.filters.lines import line_of
 from agent.filters.snapshots import told_of
 from agent.folders import index, trees
 from agent.folders.held import Held
-from agent.folders.listing import edits
+from agent.folders.listing import edits, escaped
 from agent.folders.merging import FAIL, is_database, merge
 from agent.folders.places import Places
 from agent.folders.versions import REMEMBERED, Version, none
@@ -383,7 +383,7 @@ class MergedFolders:
             asked = "newer" if rule == FAIL else rule
             done = merge(self.agent.setup.program, room, own.base.listing, own.held.entries, theirs.listing, asked)
         if done.conflicts and rule == FAIL:
-            raise InConflict(f"{len(done.conflicts)} paths of {own.slot} were changed by others too, {done.conflicts[0]} among them: nothing is kept")
+            raise InConflict(f"{len(done.conflicts)} paths of {own.slot} were changed by others too, {escaped(done.conflicts[0])} among them: nothing is kept")
         reader = theirs.reader()
         try:
             own.held.bring(done.listing, lambda path: theirs.pieces(path, reader))

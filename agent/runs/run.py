@@ -17,6 +17,7 @@ from agent.runs.merged import TARGETS, Counted, InConflict, Own
 from agent.faults import LOST, ClientGone, FarmFault, LifeOver, NodeRetired, UsageFault, WaitOver
 from agent.filters.lines import line_of
 from agent.filters.node import Ending, NodeAgent
+from agent.folders.listing import escaped
 from agent.folders.places import check_apart, path_order, place_of
 from agent.folders.shared import Closed, Home, Tenure
 from agent.tools import LOOK, need
@@ -162,10 +163,10 @@ class Run:
     def _tell_merged(self, own: Own, counted: Counted) -> None:
         self.caller.say(counted.said)
         for path in sorted(own.conflicts) if self.job.tells_conflicts else ():
-            self.caller.say(f"conflict {own.slot} {path}")
+            self.caller.say(f"conflict {own.slot} {escaped(path)}")
         for path in self.agent.merged.databases(own):
             self.caller.say(
-                f"warning: {path} of {own.slot} is a database of SQLite that others changed too, and what they wrote there is lost: use "
+                f"warning: {escaped(path)} of {own.slot} is a database of SQLite that others changed too, and what they wrote there is lost: use "
                 f"{own.slot} as a locked folder"
             )
 

@@ -203,6 +203,9 @@ class Coordinator:
         if words[0] == "status":
             for node, life in self.lives.items():
                 self.out.fact("life", node, life)
+            for node in self.gone:
+                self.out.fact("gone", node)
+            self.out.fact("tickets", self.tickets)
             for lease in self.leases.values():
                 self.out.fact("lease", *(lease[k] for k in ("ticket", "node", "life", "ask", "kind")), *lease["slots"])
             for entry in self.parked:

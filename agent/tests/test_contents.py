@@ -175,7 +175,7 @@ class Operated(support.FarmTest):
         """Behind a retired node another one has its paths. The last one is retired only by --yes. A commit says how much it has."""
         self.up("up", "--nodes", "2")
         words = ("--folder", "locked:c=w", "--", "sh", "-c", "echo one >> w/f; cat w/f")
-        self.assertIn("version 1: 1 file, 4 bytes\n", self.farm("run", "--node", "1", *words).stderr)
+        self.assertIn("version 1 (1 file, 4 bytes)\n", self.farm("run", "--node", "1", *words).stderr)
         self.assertIn("wasn't made by this node", self.farm("run", "--node", "2", *words, status=70).stderr)
         self.asked("retire", "1")
         support.until(lambda: os.path.exists(f"{self.home}/node1/places/retired"))

@@ -233,6 +233,7 @@ class Alone(support.FarmTest):
     def test_environment(self) -> None:
         """A command has its caller's environment without the broker's password, and no locale that its caller hasn't."""
         env = {key: self.env[key] for key in ("PATH", "FARM_HOME", "FARMCTL")}
+        os.makedirs(self.home)
         rows: list[dict[str, str]] = [{}, {"LC_CTYPE": "POSIX"}, {"LANG": "C", "A": "x\ny=z"}]
         for given in rows:
             kept = {"FARM_BROKER": "redis://:secret@127.0.0.1"}
@@ -330,7 +331,7 @@ class Nodes(support.FarmTest):
         self.write("go", "")
         self.assertIn("isn't known to count", self.ended(held, 75))
         self.assertEqual(self.read("runs"), "ran\n")
-        self.asked("retire", "2")
+        self.asked("retire", "2", "--yes")
         for _ in range(2):
             self.assertIn("every node that runs in", self.farm("run", "--", "true", status=70).stderr)
 

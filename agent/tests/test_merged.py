@@ -119,6 +119,28 @@ class Difference(support.RoomTest):
             self.assertLess(len(after - before), 8, number)
         self.assertEqual(list(index.ends_in([bytes(300_000)])), [262144, 300000])
 
+    def test_not_brought(self) -> None:
+        """A folder whose new bytes can't be had is as it was, and is brought later."""
+        self.write("w/a/f", "old")
+        self.write("w/gone", "x")
+        self.write("target/a/f", "new")
+        self.write("target/b/g", "new too")
+        held, before = Held(self.path("w"), self.path("note")), told(self.path("w"))
+        wanted = walk(self.path("target"), {}, {}).entries
+        held.look()
+
+        def pieces(path: str) -> list[bytes]:
+            if path == "b/g":
+                raise FarmFault("it isn't there")
+            return [b"new"]
+
+        with self.assertRaisesRegex(FarmFault, "it isn't there"):
+            held.bring(wanted, pieces)
+        self.assertEqual(told(self.path("w")), before)
+        self.assertFalse(held.look())
+        held.bring(wanted, lambda path: [b"new" if path == "a/f" else b"new too"])
+        self.assertEqual(told(self.path("w")), told(self.path("target")))
+
     def test_spoilt(self) -> None:
         """A chunk that isn't what its name says is no version's."""
         store = FolderStore(self.path("store"))

@@ -12,7 +12,7 @@ from agent.tests import support
 PYTHONS = (sys.executable, "/usr/bin/python3")  # the second has what the distribution installs
 
 
-SCRIPTS = (glob.glob("printed/*.py", root_dir=support.TOP), ["refused-memory/run.py"], [".ci/dearest"], ["farmctl"], ["release/make"])
+SCRIPTS = (glob.glob("printed/*.py", root_dir=support.TOP), ["refused-memory/run.py"], [".ci/dearest"], ["farmctl"], ["release/make"], ["packaging/deb/texts.py"])
 
 
 def python_with(module: str) -> str | None:

@@ -1,6 +1,7 @@
 #!/usr/bin/env python3
 """Runs commands and builds on a farm of three nodes while its processes are killed, its messages lost, repeated, delayed, damaged and
-forged, what a broker keeps overwritten, and leases withdrawn; then looks at every line, every version, and all that was told.
+forged, what a broker keeps overwritten, chunks in homes zeroed, flipped and swapped, gc killed, old records put back, and leases withdrawn;
+then looks at every line, every version, and all that was told.
 
 The last line is `N right, M wrong`, and the status is 1 where something was wrong, or where a farm that nobody disturbs any more didn't
 end its commands in time: a line `late: ..` tells that. Everything is on loopback and ends with the trial.
@@ -8,6 +9,7 @@ end its commands in time: a line `late: ..` tells that. Everything is on loopbac
 from __future__ import annotations
 
 import argparse
+import glob
 import json
 import os
 import random
@@ -40,7 +42,7 @@ CHOICES = [["locked:a"], ["locked:a"], ["locked:b"], ["locked:a", "locked:b"], [
 SPOILT = 99  # the status of a command that found a folder in a state that no command leaves
 
 # What is done to the farm, in an order that each round draws anew.
-DECK = ("coordinator", "node", "node", "withdraw", "withdraw", "withdraw", "client", "agent", "redis", "pause", "cut", "cut")
+DECK = ("coordinator", "node", "node", "withdraw", "withdraw", "withdraw", "client", "agent", "redis", "pause", "cut", "cut", "chunk", "chunk", "gc", "gc", "record")
 
 # What a command does in each folder that it may write.
 WORK = """
@@ -77,6 +79,8 @@ class Chaos:
         self.stopping = threading.Event()
         self.farm: Farm = KINDS[given.over](f"{room}/farm", NODES, given.seed, given.wrong)
         self.attacker: Attacker | None = None
+        self.spoilt: set[str] = set()  # chunks that were spoilt in some node's home
+        self.copied = 0  # commits that were told when the record was copied last
         self.faults: list[str] = []  # of agents that don't start again
         self.late: list[str] = []  # what a farm that nobody disturbs didn't do in time
 
@@ -191,6 +195,12 @@ class Chaos:
         elif what == "agent":
             farm.kill(dice.choice(farm.names()), dice.random())
             self.count("agents killed")
+        elif what == "chunk" and isinstance(farm, OverRedis):
+            self.spoil_chunk(dice.randrange(1, NODES + 1))
+        elif what == "gc":
+            self.gc(dice.choice([None, *range(1, NODES + 1)]), dice.choice([None, dice.random()]))
+        elif what == "record":
+            self.put_back()
         elif what == "redis" and isinstance(farm, OverRedis):
             farm.kill_redis(dice.random() * 2)
             self.count("Redis killed")
@@ -199,6 +209,55 @@ class Chaos:
             farm.cut(dice.randrange(2, NODES + 1), dice.uniform(1, 9))
             self.count("cables cut")
             self.counts["commits told while a cable was cut"] += self.commits() - before
+
+    def spoil_chunk(self, node: int) -> None:
+        """Zeroes a chunk of a node's home, flips a bit, or puts another one in its place: one that another node has as well."""
+        homes = [f"{self.farm.home(number)}/contents/chunks" for number in range(1, NODES + 1)]
+        names = {home: set(glob.glob("*/*.cacnk", root_dir=home)) for home in homes}
+        own = names.pop(homes[node - 1])
+        shared = sorted(own & set().union(*names.values()))
+        if len(shared) < 2:
+            return
+        name, other = self.dice.sample(shared, 2)
+        path = f"{homes[node - 1]}/{name}"
+        with open(path, "rb") as file:
+            data = file.read()
+        with open(f"{homes[node - 1]}/{other}", "rb") as file:
+            others = file.read()
+        at = self.dice.randrange(max(1, len(data)))
+        how, bad = self.dice.choice([
+            ("zeroed", bytes(len(data))), ("flipped", data[:at] + bytes([data[at] ^ 1]) + data[at + 1 :]), ("swapped", others), ("emptied", b""),
+        ])
+        self.spoilt.add(f":chunk:{name.partition('/')[2].removesuffix('.cacnk')}")
+        with open(f"{path}.bad", "wb") as file:
+            file.write(bad)
+        os.rename(f"{path}.bad", path)
+        self.count(f"chunks {how}")
+
+    def gc(self, node: int | None, patience: float | None) -> None:
+        """Forgets what no version has, however young it is, and is killed amid that, or not."""
+        words = [*PYTHON_FARM, "gc", "--keep", "1000000", "--grace", "0", "--home", self.farm.home(node)]
+        process = subprocess.Popen(words, stdin=subprocess.DEVNULL, stdout=subprocess.DEVNULL, stderr=subprocess.DEVNULL)
+        try:
+            process.wait(60 if patience is None else patience)
+            self.count("gc ended")
+        except subprocess.TimeoutExpired:
+            process.kill()
+            process.wait()
+            self.count("gc killed")
+
+    def put_back(self) -> None:
+        """An old record is put back in place of the right one: it has to be noticed, where commits were told since."""
+        commits = self.commits()
+        said = self.farm.put_back(f"{self.room}/old-record", self.dice.random())
+        if commits - self.copied > 3 and said != "there was none":
+            if "older than the farm" not in said:
+                self.faults.append(f"an old record was taken: {said}")
+                self.stopping.set()
+            self.count("old records noticed")
+        elif not said:
+            self.farm.kill(self.farm.names()[0], 0.0)  # it took a record that nothing had followed
+        self.copied = commits
 
     def commits(self) -> int:
         with self.lock:
@@ -300,7 +359,7 @@ class Chaos:
         fresh = RedisStore(self.farm.url, f"{self.room}/fresh", self.farm.farm)
         made: list[Source] = [Copy("Redis", fresh, True, self.farm.farm, spoilt)]
         for node in range(1, NODES + 1):
-            made.append(Copy(f"node {node}", FolderStore(f"{self.farm.home(node)}/contents"), False, "", spoilt))
+            made.append(Copy(f"node {node}", FolderStore(f"{self.farm.home(node)}/contents"), False, "", self.spoilt))
         return made
 
 

@@ -96,6 +96,34 @@ class Farm:
         time.sleep(pause)
         self.start(name)
 
+    def put_back(self, old: str, pause: float) -> str:
+        """Kills the agent that has the coordinator, and starts it with an older record in place of its own, then with the right one. What it
+        said to the older one; empty where it took that. The old one is taken where there is none, and each time anew."""
+        name, home, kept = self.names()[0], self.home(None), f"{self.room}/right"
+        with self.lock:
+            process = self.agents[name]
+            process.kill()
+            process.wait()
+            assert process.stdout
+            process.stdout.close()
+        time.sleep(pause)
+        said = "there was none"
+        shutil.rmtree(kept, ignore_errors=True)
+        copy_record(home, kept)
+        if os.path.isdir(old):
+            copy_record(old, home)
+            try:
+                self.start(name)
+                said = ""
+            except FarmFault as fault:
+                said = str(fault)
+            copy_record(kept, home)
+        shutil.rmtree(old, ignore_errors=True)
+        copy_record(kept, old)
+        if said:
+            self.start(name)
+        return said
+
     def filters(self) -> dict[str, int]:
         """The filters of these agents, by name."""
         found = {}
@@ -234,6 +262,15 @@ class OverRedis(Farm):
             self.redis.wait()
 
 
+def copy_record(source: str, to: str) -> None:
+    os.makedirs(to, exist_ok=True)
+    for name in ("record", "record.log"):
+        if os.path.exists(f"{to}/{name}"):
+            os.unlink(f"{to}/{name}")
+        if os.path.exists(f"{source}/{name}"):
+            shutil.copy2(f"{source}/{name}", to)
+
+
 def words_of(pid: int) -> list[str]:
     try:
         with open(f"/proc/{pid}/cmdline", "rb") as file:
@@ -357,7 +394,7 @@ class Attacker:
         dice = self.dice
         line: str | bytes
         if dice.random() < 0.5:
-            old = server.call("XREVRANGE", dice.choice(self._streams()), "+", "-", "COUNT", 300)
+            old = server.call("XREVRANGE", dice.choice(self._streams()), "+", "-", "COUNT", 300, most=1 << 29)
             line = dice.choice(old)[1][1] if old else b""
         else:
             rows: list[Any] = [
