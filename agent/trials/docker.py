@@ -34,7 +34,9 @@ PATIENCE = 120.0
 BASE = 'FROM scratch\nCOPY busybox /bin/busybox\nRUN ["/bin/busybox", "--install", "/bin"]\nENV PATH=/bin\n'
 MOUNT = "--mount=type=cache,sharing=locked,target=/c"
 COUNT = f"FROM farm-trial\nARG LINE\nRUN {MOUNT},id=lines echo $LINE >> /c/f; cp /c/f /f\n"
-ZOMBIE = 12  # seconds for which a step goes on whose daemon was killed
+# A step that writes once the next build's step is there, which waits for it a while: how loaded the machine is doesn't matter.
+ZOMBIE = "touch /c/begun; n=0; while [ ! -e /c/go ] && [ $n -lt 300 ]; do sleep 1; n=$((n+1)); done; echo ZOMBIE > /c/z"
+NEXT = "touch /c/go; for n in 1 2 3 4 5 6; do [ -e /c/z ] || sleep 1; done; rm /c/go; ls /c > /c/seen"
 PLANTED = """import sys
 sys.path.insert(0, {top!r})
 from agent.build import cacheids, docker
@@ -98,10 +100,20 @@ class Daemon:
             except subprocess.TimeoutExpired:
                 self.process.kill()
                 self.process.wait()
+        self.end_steps()
         with open("/proc/self/mountinfo") as file:
             left = [row.split(" ")[4] for row in file if row.split(" ")[4].startswith(f"{self.home}/")]
         for path in sorted(left, reverse=True):
             subprocess.run(["umount", "-l", path], capture_output=True)
+
+
+    def end_steps(self) -> None:
+        """Kills steps that outlived the daemon: those that have one of its directories at /c, which may be removed."""
+        for path in Path("/proc").glob("[0-9]*/mountinfo"):
+            with contextlib.suppress(OSError):
+                rows = [row.split(" ") for row in path.read_text().splitlines()]
+                if any(row[4] == "/c" and f"{self.home}/data/" in row[3] for row in rows):
+                    os.kill(int(path.parent.name), signal.SIGKILL)
 
 
 class Trial:
@@ -223,9 +235,8 @@ class Trial:
         """A step outlives its daemon, and writes while the next build has the folder."""
         mount = f"FROM farm-trial\nRUN {MOUNT},id=zombie "
         self.build(1, f"{mount} echo first > /c/a\n")
-        begun = time.monotonic()
-        self.orphan(f"{mount} touch /c/begun; sleep {ZOMBIE}; echo ZOMBIE > /c/z\n")
-        self.build(1, f"{mount} sleep {max(ZOMBIE + 2 - (time.monotonic() - begun), 1):.0f}; ls /c > /c/seen\n")
+        self.orphan(f"{mount} {ZOMBIE}\n")
+        self.build(1, f"{mount} {NEXT}\n")
         found = self.got("locked:zombie")
         expect(sorted(found) == ["a", "seen"], f"the next version holds {found}, of a step that outlived its daemon")
         return "a step that outlived its daemon wrote into no version"
