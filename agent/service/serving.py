@@ -305,6 +305,7 @@ def answer_command(agent: NodeAgent, builds: Builds, wanted: Wanted, request: ob
         return Build(builds, request, link).run()
     if isinstance(request, ForgetRequest):
         agent.places.forget_gone()
+        agent.merged.give_up()
         link.tell(Forgotten(contents=forget(agent, set(request.needed), request.grace)))
         builds.sweep()
     elif isinstance(request, NeededRequest):
