@@ -265,8 +265,7 @@ class MergedFolders:
         with contextlib.suppress(OSError):
             own.held.save()
         self._free(own.held)
-        for name in os.listdir(self.home):
-            self._give_up(f"{self.home}/{name}")
+        self.give_up()
 
     def _free(self, held: Held) -> None:
         with self.lock:
@@ -277,8 +276,12 @@ class MergedFolders:
             while len(self.helds) > 1 and sum(len(each.entries) for each in self.helds.values()) > REMEMBERED:
                 del self.helds[next(iter(self.helds))]  # its marks are kept beside it
 
-    def _give_up(self, home: str) -> None:
+    def give_up(self) -> None:
         """Removes folders that nobody uses: more than are kept warm, old ones, and all where the disk is nearly full."""
+        for name in os.listdir(self.home) if os.path.isdir(self.home) else ():
+            self._give_up(f"{self.home}/{name}")
+
+    def _give_up(self, home: str) -> None:
         with self.lock:
             paths = [f"{home}/{name}" for name in os.listdir(home) if name.isdigit()]
             free = sorted((path for path in paths if path not in self.busy), key=lambda path: os.lstat(path).st_ctime, reverse=True)

@@ -260,7 +260,10 @@ def take_over(home: str) -> None:
     if os.path.exists(f"{home}/served") or not is_there(path):
         return
     with contextlib.suppress(OSError, ValueError), open(f"{home}/pid") as file:
-        os.kill(int(file.read()), signal.SIGUSR1)
+        pid = int(file.read())
+        with open(f"/proc/{pid}/cmdline", "rb") as words:
+            if b"--while-used" in words.read().split(b"\0"):  # else what the file names is gone
+                os.kill(pid, signal.SIGUSR1)
     while os.path.exists(f"{home}/pid") and is_there(path):
         if time.monotonic() > told:
             tell(f"waiting for the farm that a command started in {home}: other commands use it yet")
@@ -302,6 +305,7 @@ def answer_command(agent: NodeAgent, builds: Builds, wanted: Wanted, request: ob
         return Build(builds, request, link).run()
     if isinstance(request, ForgetRequest):
         agent.places.forget_gone()
+        agent.merged.give_up()
         link.tell(Forgotten(contents=forget(agent, set(request.needed), request.grace)))
         builds.sweep()
     elif isinstance(request, NeededRequest):

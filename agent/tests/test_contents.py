@@ -192,11 +192,12 @@ class Operated(support.FarmTest):
         self.assertIn("version 2", self.farm("run", "--folder", "locked:c=w", "--", "true").stderr)
         up.terminate()
         up.wait()
-        using = self.begin("run", "--", "sh", "-c", "touch begun; sleep 3")
+        using = self.begin("run", "--", "sh", "-c", "touch begun; until [ -e go ]; do sleep 0.1; done")
         self.wait_for(self.path("begun"))
         up = subprocess.Popen([*support.FARM, "up", "--nodes", "1"], env=self.env, stdout=subprocess.PIPE, stderr=subprocess.PIPE, text=True)
         self.ups.append(up)
         self.hear(up, "waiting for the farm that a command started")
+        self.write("go", "")
         assert up.stdout
         self.assertEqual(up.stdout.readline(), "up\n")
         self.assertEqual(using.wait(), 0)

@@ -251,7 +251,7 @@ class Chaos:
         commits = self.commits()
         said = self.farm.put_back(f"{self.room}/old-record", self.dice.random())
         if commits - self.copied > 3 and said != "there was none":
-            if "older than the farm" not in said:
+            if "--restored" not in said:
                 self.faults.append(f"an old record was taken: {said}")
                 self.stopping.set()
             self.count("old records noticed")

@@ -163,7 +163,7 @@ class Trial:
                 return
             farm.kill_redis(dice.random())
         elif what == "withdraw":
-            for _ in range(20):  # leases of merges are short
+            for _ in range(6):  # leases of merges are short
                 found = re.findall(r"has .*locked:c.* ticket (\d+)", self.ask("status"))
                 if found and self.ask("withdraw", found[0]):
                     break
