@@ -16,7 +16,7 @@ import time
 from typing import Iterator
 
 from release.choice import MISSING, NoProgram
-from release.sources import TOP, crates_of, digest_of, needed, stamp, standing
+from release.sources import TOP, digest_of, needed, stamp, standing
 
 PARTS = ("src", "specs", "proofs", "stdin", "stdout", "args", "status", "data")  # what a program is proved and run with: no edits
 FAILED = 70
@@ -39,12 +39,11 @@ def need_kit() -> str:
 def copied(programs: tuple[str, ...]) -> Iterator[str]:
     """A copy of the crates that programs need."""
     with tempfile.TemporaryDirectory(prefix="jugcress-build-") as room:
-        every = crates_of()
         names = sorted({name for program in programs for name in needed(program)})
         os.mkdir(f"{room}/.git")
         shutil.copyfile(f"{TOP}/HANDLES", f"{room}/HANDLES")
-        with open(f"{room}/crates.txt", "w") as file:
-            file.writelines(f"{name}: {' '.join(every[name])}\n" for name in names)
+        with open(f"{TOP}/crates.txt") as file, open(f"{room}/crates.txt", "w") as copied_file:  # line by line: what was proved is kept by them
+            copied_file.writelines(line for line in file if line.partition(":")[0].strip() in names)
         for name in names:
             os.makedirs(f"{room}/crates/{name}")
             for part in PARTS:
