@@ -1,5 +1,5 @@
-"""Which program runs: the one that FARMCTL names; one that was built here from these sources; the released one, if it was built from these
-sources. Nothing is proved or built unasked, and nothing runs whose bytes aren't the manifest's.
+"""Which program runs: the one that FARMCTL names; one that was proved and built here from these sources; the released one, if it was built
+from these sources; a trial of them. Nothing is proved or built unasked, and nothing runs whose bytes aren't the manifest's.
 """
 from __future__ import annotations
 
@@ -41,17 +41,24 @@ def named() -> Choice | None:
 
 
 def built(name: str) -> Choice | None:
-    """A program that was built here, proved or as a trial, from the sources that stand here."""
-    for kind, what in ((name, "proved and built here"), ("trial", "a trial, of which nothing is proved")):
-        path = f"{TOP}/crates/{name}/out/{kind}"
-        try:
-            with open(f"{path}.sources") as file:
-                kept, digest = file.read().split()
-        except (OSError, ValueError):
-            continue
-        if os.access(path, os.X_OK) and kept == stamp(name, TOP) and digest == digest_of(path):
-            return Choice(path, what)
-    return None
+    """A program that was proved and built here from the sources that stand here."""
+    return stamped(name, name, "proved and built here")
+
+
+def trial(name: str) -> Choice | None:
+    """A trial that was built here from the sources that stand here."""
+    return stamped(name, "trial", "a trial, of which nothing is proved")
+
+
+def stamped(name: str, file_name: str, what: str) -> Choice | None:
+    """A program among what was built here, if its stamp says these sources and these bytes."""
+    path = f"{TOP}/crates/{name}/out/{file_name}"
+    try:
+        with open(f"{path}.sources") as file:
+            kept, digest = file.read().split()
+    except (OSError, ValueError):
+        return None
+    return Choice(path, what) if os.access(path, os.X_OK) and kept == stamp(name, TOP) and digest == digest_of(path) else None
 
 
 def released(name: str) -> Choice | None:
@@ -80,7 +87,7 @@ def changed(name: str, found: manifest.Manifest) -> list[str]:
 
 def chosen(name: str) -> Choice:
     """The program that runs."""
-    choice = named() or built(name) or released(name)
+    choice = named() or built(name) or released(name) or trial(name)
     if choice is None:
         raise NoProgram(why_none(name), MISSING)
     return choice
@@ -88,7 +95,7 @@ def chosen(name: str) -> Choice:
 
 def chosen_filter() -> Choice:
     """The program whose processes decide, of those that have them: farmd before farmctl."""
-    choice = named() or next(filter(None, (find(name) for find in (built, released) for name in PROGRAMS)), None)
+    choice = named() or next(filter(None, (find(name) for find in (built, released, trial) for name in PROGRAMS)), None)
     if choice is None:
         raise NoProgram(why_none("farmd"), MISSING)
     return choice

@@ -119,6 +119,16 @@ class Releases(support.RoomTest):
         self.source("top/crates/low/src/lib.rt", "fn other")
         self.assertIn("other sources of low", self.call("x", status=69))
 
+    def test_trial(self) -> None:
+        """A trial, of which nothing is proved, never runs in place of a release of the same sources; where there is none it does."""
+        self.program("top/crates/farmd/out/trial", "trial")
+        trial = f"{self.top}/crates/farmd/out/trial"
+        self.write("top/crates/farmd/out/trial.sources", f"{sources.stamp('farmd', self.top)} {sources.digest_of(trial)}\n")
+        self.assertEqual(self.call("x"), "released x\n")
+        os.unlink(self.path("top/release/MANIFEST"))
+        self.assertEqual(self.call("x"), "trial x\n")
+        self.assertIn("of which nothing is proved", self.call("--version"))
+
     def test_filters(self) -> None:
         """The agent takes farmd before farmctl, and says why where it takes none."""
         with mock.patch.object(choice, "TOP", self.top), mock.patch.object(manifest, "PATH", f"{self.top}/release/MANIFEST"):
