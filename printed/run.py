@@ -13,14 +13,14 @@ that isn't proved needs more. A table is a file `TABLE.cases` of blocks, parted 
     cut NAME FROM TO       the block is tried with the file cut to each of these lengths
     $ WORDS                calls farmctl in the folder of the files; a last word `<NAME` is the file that it reads, `>PATH` one that it
                            prints to
-    < LINE                 is read by it; `<!` is a line that gets no MAC
+    < LINE                 is read by it; `<!` is a line that gets no seal
     > LINE                 is printed to the standard output
     ! LINE                 is printed to the standard error
     = N                    is the status, where it isn't 0
     left NAME TEXT         is what a file has at the end; the others have what they were given
 
 Of what is printed a line `...` is any lines, and `...` at a line's end any rest. A line that begins with `m ` is a message, read or printed
-with its MAC under the file `key`. The files of a block without a call are there for all blocks below it. The schedules of `worked.cases`
+with its MAC under the key that is made of the file `key` for the node of its second word, or with a dash where it is of a content. The files of a block without a call are there for all blocks below it. The schedules of `worked.cases`
 are also cut at each byte, and read, or refused at their last line. The status is 1 where a case is wrong, or none is tried.
 """
 from __future__ import annotations
@@ -81,10 +81,20 @@ DATA: dict[str, Callable[[str], bytes]] = {"text": data_of, "hex": bytes.fromhex
 DATA |= {"lines": lambda rest: repeated(rest).encode("ascii"), "hexes": lambda rest: bytes.fromhex(repeated(rest))}
 
 
+def mac(key: bytes, text: str) -> str:
+    return hmac.new(key, text.encode("latin-1"), hashlib.sha256).hexdigest()
+
+
 def sealed(case: Case, line: str) -> str:
-    """A message's line with its MAC; any other as it is."""
-    key = case.files.get("key", b"").removesuffix(b"\n")
-    return f"{line} {hmac.new(key, line[2:].encode('latin-1'), hashlib.sha256).hexdigest()}" if line.startswith("m ") else line
+    """A message's line with its seal; any other as it is."""
+    if not line.startswith("m "):
+        return line
+    text, key = line[2:], case.files.get("key", b"").removesuffix(b"\n")
+    if text.startswith(("fetch ", "blob ")):
+        return f"{line} -"
+    if named := re.match(r"[^ ]* ([1-9][0-9]*) ", text):
+        key = mac(key, f"key of node {named[1]} in epoch 0").encode("ascii")
+    return f"{line} {mac(key, text)}"
 
 
 def add(case: Case, line: str) -> None:

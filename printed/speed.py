@@ -265,10 +265,11 @@ def events(room: Room) -> None:
 LIFE = 1 << 40
 EMPTY = hashlib.sha256(b"").hexdigest()
 KEY = b"5" * 64
+NODE_KEY = hmac.digest(KEY, b"key of node 1 in epoch 0", "sha256").hex().encode("ascii")
 
 
 def sealed(text: str) -> str:
-    return f"m {text} {hmac.digest(KEY, text.encode('ascii'), 'sha256').hex()}"
+    return f"m {text} {hmac.digest(NODE_KEY, text.encode('ascii'), 'sha256').hex()}"
 
 
 def over(asks: int) -> list[str]:
@@ -285,7 +286,7 @@ class Node:
     def __init__(self, room: Room) -> None:
         self.store = Path(room.folder, "n1")
         self.store.mkdir()
-        self.words = ["node", "--node", "1", "--nodes", "1", "--store", str(self.store), "--key", room.file(KEY)]
+        self.words = ["node", "--node", "1", "--nodes", "1", "--store", str(self.store), "--key", room.file(NODE_KEY)]
 
     def begun(self) -> list[str]:
         Path(self.store, "life").write_text(f"node 1 life {LIFE - 1}\n", "ascii")

@@ -6,6 +6,9 @@ ghost use Rattle.std.specs.Io.KnownBytes.{Appends};
 ghost use Rattle.processcommands.specs.declared.statuses.TheConstants.{DONE, FAULT, REFUSED};
 ghost use Rattle.commands.specs.declared.running.InputFault.TheVariants as inputs;
 ghost use Rattle.answers.specs.Answers.{SpellsGraph, IsNoGraph};
+ghost use Rattle.filekeeper.specs.Disks.{calls_of, Leaves};
+ghost use Rattle.filekeeper.specs.Settled.{IsPutOver, IsSettled};
+ghost use Rattle.saverecord.specs.Texts.{whole_alone};
 ghost use Rattle.solverkeys.specs.GraphKeys.{AreKeys};
 ghost use Rattle.solverkeys.specs.Keyed.{KeyedParts};
 ghost use Rattle.names.specs.declared.number.NodeId.{NodeId};
@@ -16,7 +19,7 @@ use answers::{Failure, graph_of};
 use commandline::Order;
 use farm::{Executor, FailedJob, Farm, FarmEnd, FarmFault, FarmStop, OpenGate};
 use farm_base::NodeId;
-use filekeeper::FileKeeper;
+use filekeeper::{Device, Disk, FileKeeper, HostDevice, put_record};
 use jobs::Answer;
 use processcommands::{DONE, FAULT, MEMORY, REFUSED, print};
 use schedule::Setup;
@@ -299,7 +302,21 @@ fn make_report<R: Threads + Wait + Sync>(
     })
 }
 
-/// Keeps a record in the file of this path, in the place of what it held. It prints a fault where that fails.
+/// Keeps a record on this disk, in the place of what it held. It prints a fault where that fails.
+fn keep_on<D: Device, E: Write>(disk: &mut Disk<D>, saved: &[u8], err: &mut E) -> Option<u8>
+    ensures kept { IfNone result (IsSettled (calls_of disk.new) (whole_alone saved.now)) }
+    ensures none { IfNone result (err.new ≡ err.old) }
+    ensures some { IfSome result (λ status. (status ≢ DONE) × (status ≢ REFUSED)) }
+    // A crash at any moment leaves what it might have left before, or this record, with such a log or with none. So do the files after a fault.
+    ensures any_moment { Leaves (IsPutOver saved.now (calls_of disk.old)) (calls_of disk.old) (calls_of disk.new) }
+{
+    match put_record(disk, saved) {
+        Ok(()) => None,
+        Err(error) => Some(print_save_fault(&error, err)),
+    }
+}
+
+/// Keeps a record in the file of this path, if there is one.
 fn keep<R: Files, E: Write>(
     files: &R,
     alloc: Global,
@@ -311,9 +328,9 @@ fn keep<R: Files, E: Write>(
     ensures some { IfSome result (λ status. (status ≢ DONE) × (status ≢ REFUSED)) }
 {
     let path = path?;
-    match FileKeeper::put(files, alloc, path, saved) {
-        Ok(()) => None,
-        Err(error) => Some(print_save_fault(&error, err)),
+    match HostDevice::new(files, alloc, path) {
+        Ok(device) => keep_on(&mut Disk::new(device), saved, err),
+        Err(_) => Some(print(err, "out of memory\n", MEMORY)),
     }
 }
 

@@ -48,6 +48,7 @@ use Rattle.services.specs.Served.{Batch}
 use Rattle.services.specs.declared.lost.Lost.{Lost}
 use Rattle.services.specs.declared.settled.Settled.{Settled}
 use Rattle.services.specs.declared.settled.Settled.TheVariants.{Lasts, Failed}
+use Rattle.farmwire.specs.Sealed.{Keys}
 
 abbrev kept_of : Filed → Texts
 kept_of f = f.texts
@@ -219,26 +220,26 @@ module _ (sha : List ℕ → Digest) (p : Processes) where
 
   -- ---- lines
 
-  line_went : (key : List ℕ) (limit : ℕ) (line : List ℕ) (given : Result (List ℕ) Lost) (answer : List ℕ) (old new : Seen Filed) → ((message : ToCoord) → Asks key line (Handle message) → In (Said message) p.written) → IsKept limit line given
-      → At old → Inv old.keeper → Filters file_saves FileLoads kept_of key given answer old new → Went old.keeper new.keeper
-  line_went key limit line given answer old new heard is at inv (Calls call reply asks done written) =
+  line_went : (keys : Keys) (limit : ℕ) (line : List ℕ) (given : Result (List ℕ) Lost) (answer : List ℕ) (old new : Seen Filed) → ((message : ToCoord) → Asks keys line (Handle message) → In (Said message) p.written) → IsKept limit line given
+      → At old → Inv old.keeper → Filters file_saves FileLoads kept_of keys given answer old new → Went old.keeper new.keeper
+  line_went keys limit line given answer old new heard is at inv (Calls call reply asks done written) =
       carried_went (called call) old new reply
-      (may_come file_saves FileLoads FileSyncs kept_of file_texts gathered_file key line (p.written ++ []) call (λ m a. still_in (Said m) p.written [] (heard m a))
-      (line_given file_saves FileLoads FileSyncs kept_of file_texts gathered_file limit key line given (order.Call call) is asks)) at inv done
-  line_went key limit line given answer old new heard is at inv (Stops call asks restart out) = restart_went old.down (kept_of old.keeper) old new restart.0 inv restart.1
-  line_went key limit line given answer old new heard is at inv (Shows question asks same text) = stayed old.keeper new.keeper inv (ap keeper_of same)
-  line_went key limit line given answer old new heard is at inv (Drops why asks same text) = stayed old.keeper new.keeper inv (ap keeper_of same)
+      (may_come file_saves FileLoads FileSyncs kept_of file_texts gathered_file keys line (p.written ++ []) call (λ m a. still_in (Said m) p.written [] (heard m a))
+      (line_given file_saves FileLoads FileSyncs kept_of file_texts gathered_file limit keys line given (order.Call call) is asks)) at inv done
+  line_went keys limit line given answer old new heard is at inv (Stops call asks restart out) = restart_went old.down (kept_of old.keeper) old new restart.0 inv restart.1
+  line_went keys limit line given answer old new heard is at inv (Shows question asks same text) = stayed old.keeper new.keeper inv (ap keeper_of same)
+  line_went keys limit line given answer old new heard is at inv (Drops why asks same text) = stayed old.keeper new.keeper inv (ap keeper_of same)
 
-  lines_went : (key : List ℕ) (limit : ℕ) (lines answers : List (List ℕ)) (old new : Seen Filed) → AreHeard p.written key lines → At old → Inv old.keeper
-      → served.Answers (file_steps key) limit old lines answers new → Went old.keeper new.keeper
-  lines_went key limit [] [] old new heard at inv h = stayed old.keeper new.keeper inv (ap keeper_of (sym h))
-  lines_went key limit [] (a ∷ answers) old new heard at inv h = absurd h
-  lines_went key limit (l ∷ lines) [] old new heard at inv h = absurd h
-  lines_went key limit (l ∷ lines) (a ∷ answers) old new heard at inv h =
+  lines_went : (keys : Keys) (limit : ℕ) (lines answers : List (List ℕ)) (old new : Seen Filed) → AreHeard p.written keys lines → At old → Inv old.keeper
+      → served.Answers (file_steps keys) limit old lines answers new → Went old.keeper new.keeper
+  lines_went keys limit [] [] old new heard at inv h = stayed old.keeper new.keeper inv (ap keeper_of (sym h))
+  lines_went keys limit [] (a ∷ answers) old new heard at inv h = absurd h
+  lines_went keys limit (l ∷ lines) [] old new heard at inv h = absurd h
+  lines_went keys limit (l ∷ lines) (a ∷ answers) old new heard at inv h =
       let next = h.1 in
-      let first = line_went key limit l h.0 a old next (λ m asks. heard l m (inl refl) asks) h.2 at inv h.3 in
-      let at_next = line_comes file_saves FileLoads FileSyncs kept_of file_texts gathered_file sha key limit p [] true l h.0 a old next (λ m asks. heard l m (inl refl) asks) h.2 h.3 at in
-      then_went old.keeper next.keeper new.keeper first (lines_went key limit lines answers next new (λ line m i asks. heard line m (inr i) asks) at_next first.inv h.4)
+      let first = line_went keys limit l h.0 a old next (λ m asks. heard l m (inl refl) asks) h.2 at inv h.3 in
+      let at_next = line_comes file_saves FileLoads FileSyncs kept_of file_texts gathered_file sha keys limit p [] true l h.0 a old next (λ m asks. heard l m (inl refl) asks) h.2 h.3 at in
+      then_went old.keeper next.keeper new.keeper first (lines_went keys limit lines answers next new (λ line m i asks. heard line m (inr i) asks) at_next first.inv h.4)
 
   -- ---- batches
 
@@ -249,35 +250,35 @@ module _ (sha : List ℕ → Digest) (p : Processes) where
       let first = synced mid.keeper false failed.keeper inv done.1.0 in
       then_went mid.keeper failed.keeper new.keeper first (restart_went true (kept_of failed.keeper) failed new (Some restart) first.inv done.2)
 
-  batch_went : (key : List ℕ) (limit : ℕ) (lines : List (List ℕ)) (text : List ℕ) (old new : Seen Filed) → AreOfTheFarm key lines p.written → At old → Inv old.keeper
-      → Batch (file_steps key) file_settles limit lines text old new → Went old.keeper new.keeper
-  batch_went key limit lines text old new heard at inv b =
+  batch_went : (keys : Keys) (limit : ℕ) (lines : List (List ℕ)) (text : List ℕ) (old new : Seen Filed) → AreOfTheFarm keys lines p.written → At old → Inv old.keeper
+      → Batch (file_steps keys) file_settles limit lines text old new → Went old.keeper new.keeper
+  batch_went keys limit lines text old new heard at inv b =
       let mid = b.answered_to in
-      let first = lines_went key limit lines b.answers old mid (are_heard key lines p.written heard) at inv b.answered in
+      let first = lines_went keys limit lines b.answers old mid (are_heard keys lines p.written heard) at inv b.answered in
       then_went old.keeper mid.keeper new.keeper first (made_went b.settled mid new first.inv b.made)
 
   -- ---- where the answers don't last
 
-  abbrev Falters_here : List ℕ → Seen Filed → Seen Filed → Type 0
-  Falters_here key first old = Falters (λ heard. AreOfTheFarm key heard p.written) key first old
+  abbrev Falters_here : Keys → Seen Filed → Seen Filed → Type 0
+  Falters_here keys first old = Falters (λ heard. AreOfTheFarm keys heard p.written) keys first old
 
   -- nothing of a batch whose answers failed to last was written
-  failed_at : (key : List ℕ) (limit : ℕ) (lines answers : List (List ℕ)) (s : Settled) (restart : Result ⊤ CoordRefusal) (old mid new : Seen Filed) → AreOfTheFarm key lines p.written → At old
-      → served.Answers (file_steps key) limit old lines answers mid → file_settles mid s new → s ≡ Failed restart → At new
-  failed_at key limit lines answers Lasts restart old mid new heard at h done is = (let bad : Lasts ≡ Failed restart = is in absurd (cc bad))
-  failed_at key limit lines answers (Failed other) restart old mid new heard at h done is =
-      (made file_saves FileLoads FileSyncs kept_of file_texts gathered_file sha key limit lines answers (Failed other) old mid new p at (are_heard key lines p.written heard) h done).0
+  failed_at : (keys : Keys) (limit : ℕ) (lines answers : List (List ℕ)) (s : Settled) (restart : Result ⊤ CoordRefusal) (old mid new : Seen Filed) → AreOfTheFarm keys lines p.written → At old
+      → served.Answers (file_steps keys) limit old lines answers mid → file_settles mid s new → s ≡ Failed restart → At new
+  failed_at keys limit lines answers Lasts restart old mid new heard at h done is = (let bad : Lasts ≡ Failed restart = is in absurd (cc bad))
+  failed_at keys limit lines answers (Failed other) restart old mid new heard at h done is =
+      (made file_saves FileLoads FileSyncs kept_of file_texts gathered_file sha keys limit lines answers (Failed other) old mid new p at (are_heard keys lines p.written heard) h done).0
 
-  faltered_at : (key : List ℕ) (first old : Seen Filed) → p.coordinator ≡ process_of kept_of first → Falters_here key first old → At old
-  faltered_at key first old same Not_yet = rests sha p (process_of kept_of first) same
-  faltered_at key first last same (Once_more limit lines text old new restart before heard b is) =
-      failed_at key limit lines b.answers b.settled restart old b.answered_to new heard (faltered_at key first old same before) b.answered b.made is
+  faltered_at : (keys : Keys) (first old : Seen Filed) → p.coordinator ≡ process_of kept_of first → Falters_here keys first old → At old
+  faltered_at keys first old same Not_yet = rests sha p (process_of kept_of first) same
+  faltered_at keys first last same (Once_more limit lines text old new restart before heard b is) =
+      failed_at keys limit lines b.answers b.settled restart old b.answered_to new heard (faltered_at keys first old same before) b.answered b.made is
 
-  faltered_went : (key : List ℕ) (first old : Seen Filed) → p.coordinator ≡ process_of kept_of first → Inv first.keeper → Falters_here key first old → Went first.keeper old.keeper
-  faltered_went key first old same inv Not_yet = stayed first.keeper first.keeper inv refl
-  faltered_went key first last same inv (Once_more limit lines text old new restart before heard b is) =
-      let went = faltered_went key first old same inv before in
-      then_went first.keeper old.keeper new.keeper went (batch_went key limit lines text old new heard (faltered_at key first old same before) went.inv b)
+  faltered_went : (keys : Keys) (first old : Seen Filed) → p.coordinator ≡ process_of kept_of first → Inv first.keeper → Falters_here keys first old → Went first.keeper old.keeper
+  faltered_went keys first old same inv Not_yet = stayed first.keeper first.keeper inv refl
+  faltered_went keys first last same inv (Once_more limit lines text old new restart before heard b is) =
+      let went = faltered_went keys first old same inv before in
+      then_went first.keeper old.keeper new.keeper went (batch_went keys limit lines text old new heard (faltered_at keys first old same before) went.inv b)
 
   begins : (first : Seen Filed) → p.coordinator ≡ process_of kept_of first → file_texts first.keeper ≡ first.keeper.texts → IsDurable first.keeper → Inv first.keeper
   begins first same lasting durable =
@@ -305,34 +306,34 @@ module _ (sha : List ℕ → Digest) (p : Processes) where
   made_durable (Failed restart) mid new done up = restart_durable done.0 new restart done.1.2 done.2 up
 
 pub crash_over_files : ACrashOverFilesIsARun
-crash_over_files sha key limit lines text first old new p same lasting durable falters heard answers =
+crash_over_files sha keys limit lines text first old new p same lasting durable falters heard answers =
     let inv = begins sha p first same lasting durable in
-    let went = faltered_went sha p key first old same inv falters in
+    let went = faltered_went sha p keys first old same inv falters in
     (then_went sha p first.keeper old.keeper new.keeper went (elim answers [
       | inl idle ↦ stayed sha p old.keeper new.keeper went.inv (ap keeper_of idle)
-      | inr b ↦ batch_went sha p key limit lines text old new heard (faltered_at sha p key first old same falters) went.inv b
+      | inr b ↦ batch_went sha p keys limit lines text old new heard (faltered_at sha p keys first old same falters) went.inv b
     ])).amid
 
 pub return_over_files : AReturnOverFilesIsARun
-return_over_files sha key limit lines text first old new p same falters heard b =
+return_over_files sha keys limit lines text first old new p same falters heard b =
     let mid = b.answered_to in
-    let done = made file_saves FileLoads FileSyncs kept_of file_texts gathered_file sha key limit lines b.answers b.settled old mid new p (faltered_at sha p key first old same falters)
-    (are_heard key lines p.written heard) b.answered b.made in
-    let messages = settled_messages b.settled (messages_of file_saves FileLoads kept_of key limit old mid lines b.answers b.answered) in (
+    let done = made file_saves FileLoads FileSyncs kept_of file_texts gathered_file sha keys limit lines b.answers b.settled old mid new p (faltered_at sha p keys first old same falters)
+    (are_heard keys lines p.written heard) b.answered b.made in
+    let messages = settled_messages b.settled (messages_of file_saves FileLoads kept_of keys limit old mid lines b.answers b.answered) in (
       done.0,
-      subst (Says key messages) (sym b.text_is) done.2,
+      subst (Says keys messages) (sym b.text_is) done.2,
       λ up. (done.1 up, made_durable sha p b.settled mid new b.made up),
     )
 
 -- what is heard in one way is heard in another
-pub falters_so : (Hears Others : List (List ℕ) → Type 0) (key : List ℕ) (first old : Seen Filed) → ((lines : List (List ℕ)) → Hears lines → Others lines) → Falters Hears key first old
-    → Falters Others key first old
-falters_so Hears Others key first old so Not_yet = Not_yet
-falters_so Hears Others key first last so (Once_more limit lines text old new restart before heard b is) =
-    Once_more limit lines text old new restart (falters_so Hears Others key first old so before) (so lines heard) b is
+pub falters_so : (Hears Others : List (List ℕ) → Type 0) (keys : Keys) (first old : Seen Filed) → ((lines : List (List ℕ)) → Hears lines → Others lines) → Falters Hears keys first old
+    → Falters Others keys first old
+falters_so Hears Others keys first old so Not_yet = Not_yet
+falters_so Hears Others keys first last so (Once_more limit lines text old new restart before heard b is) =
+    Once_more limit lines text old new restart (falters_so Hears Others keys first old so before) (so lines heard) b is
 
 -- of answers that failed to last nothing is written
-pub failed_says_nothing : (key : List ℕ) (limit : ℕ) (lines : List (List ℕ)) (text : List ℕ) (old new : Seen Filed) (b : Batch (file_steps key) file_settles limit lines text old new) (restart : Result ⊤ CoordRefusal)
-    → b.settled ≡ Failed restart → batch_messages file_saves FileLoads FileSyncs kept_of file_texts key limit lines text old new b ≡ []
-failed_says_nothing key limit lines text old new b restart failed =
-    ap (λ s. settled_messages s (messages_of file_saves FileLoads kept_of key limit old b.answered_to lines b.answers b.answered)) failed
+pub failed_says_nothing : (keys : Keys) (limit : ℕ) (lines : List (List ℕ)) (text : List ℕ) (old new : Seen Filed) (b : Batch (file_steps keys) file_settles limit lines text old new) (restart : Result ⊤ CoordRefusal)
+    → b.settled ≡ Failed restart → batch_messages file_saves FileLoads FileSyncs kept_of file_texts keys limit lines text old new b ≡ []
+failed_says_nothing keys limit lines text old new b restart failed =
+    ap (λ s. settled_messages s (messages_of file_saves FileLoads kept_of keys limit old b.answered_to lines b.answers b.answered)) failed

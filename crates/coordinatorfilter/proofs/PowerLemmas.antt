@@ -28,6 +28,7 @@ use Rattle.coordinatorfilter.specs.Written.{Filters}
 use Rattle.coordinatorfilter.specs.Written.Filters.{Calls, Stops, Shows, Drops}
 use Rattle.coordinatorfilter.specs.Rules.{IsHonest, file_saves, process_of, gone_with, filter_steps, APowerFailureIsARun, APowerFailureOverFilesIsARun}
 use Rattle.coordinatorfilter.proofs.RuleLemmas.{are_heard, loads_keep, rests, same_process, does_silently, lines_come, gathered_file}
+use Rattle.farmwire.specs.Sealed.{Keys}
 
 -- ---- a line
 
@@ -159,35 +160,35 @@ module _ {K : Type 0} (saving : Saving K) (loading : Loading K) (syncing : Synci
         ]
       ]
 
-  line_left : (key : List ℕ) (given : Result (List ℕ) Lost) (answer : List ℕ) (old new : Seen K) (left : Texts) → Filters saving loading kept key given answer old new
+  line_left : (keys : Keys) (given : Result (List ℕ) Lost) (answer : List ℕ) (old new : Seen K) (left : Texts) → Filters saving loading kept keys given answer old new
       → MayBeLeft new.keeper left → WereThere old.keeper new.keeper left
-  line_left key given answer old new left (Calls call reply asks done written) h = carried_left (called call) old new reply left done h
-  line_left key given answer old new left (Stops call asks restart out) h = restart_left old.down (kept old.keeper) old new restart.0 left restart.1 h
-  line_left key given answer old new left (Shows question asks same text) h = same_left old.keeper new.keeper left (ap (λ (s : Seen K). s.keeper) same) h
-  line_left key given answer old new left (Drops why asks same text) h = same_left old.keeper new.keeper left (ap (λ (s : Seen K). s.keeper) same) h
+  line_left keys given answer old new left (Calls call reply asks done written) h = carried_left (called call) old new reply left done h
+  line_left keys given answer old new left (Stops call asks restart out) h = restart_left old.down (kept old.keeper) old new restart.0 left restart.1 h
+  line_left keys given answer old new left (Shows question asks same text) h = same_left old.keeper new.keeper left (ap (λ (s : Seen K). s.keeper) same) h
+  line_left keys given answer old new left (Drops why asks same text) h = same_left old.keeper new.keeper left (ap (λ (s : Seen K). s.keeper) same) h
 
   -- ---- lines
 
   -- after the first of these lines the texts were kept
-  record WereKept (key : List ℕ) (limit : ℕ) (lines : List (List ℕ)) (old : Seen K) (left : Texts) : Type 0 where
+  record WereKept (keys : Keys) (limit : ℕ) (lines : List (List ℕ)) (old : Seen K) (left : Texts) : Type 0 where
     early : List (List ℕ)
     answers : List (List ℕ)
     then : Seen K
-    answered : served.Answers (filter_steps saving loading kept key) limit old early answers then
+    answered : served.Answers (filter_steps saving loading kept keys) limit old early answers then
     is : kept then.keeper ≡ left
     among : (line : List ℕ) → In line early → In line lines
 
-  after_none : (key : List ℕ) (limit : ℕ) (lines : List (List ℕ)) (old : Seen K) (left : Texts) → left ≡ kept old.keeper → WereKept key limit lines old left
-  after_none key limit lines old left is = record { early = []; answers = []; then = old; answered = refl; is = sym is; among = λ line none. absurd none }
+  after_none : (keys : Keys) (limit : ℕ) (lines : List (List ℕ)) (old : Seen K) (left : Texts) → left ≡ kept old.keeper → WereKept keys limit lines old left
+  after_none keys limit lines old left is = record { early = []; answers = []; then = old; answered = refl; is = sym is; among = λ line none. absurd none }
 
-  lines_left : (key : List ℕ) (limit : ℕ) (lines answers : List (List ℕ)) (old new : Seen K) (left : Texts)
-      → served.Answers (filter_steps saving loading kept key) limit old lines answers new → MayBeLeft new.keeper left
-      → WereKept key limit lines old left ⊎ MayBeLeft old.keeper left
-  lines_left key limit [] [] old new left h may = inr (subst (λ (s : Seen K). MayBeLeft s.keeper left) (sym h) may)
-  lines_left key limit [] (a ∷ answers) old new left h may = absurd h
-  lines_left key limit (l ∷ lines) [] old new left h may = absurd h
-  lines_left key limit (l ∷ lines) (a ∷ answers) old new left h may =
-      elim (lines_left key limit lines answers h.1 new left h.4 may) [
+  lines_left : (keys : Keys) (limit : ℕ) (lines answers : List (List ℕ)) (old new : Seen K) (left : Texts)
+      → served.Answers (filter_steps saving loading kept keys) limit old lines answers new → MayBeLeft new.keeper left
+      → WereKept keys limit lines old left ⊎ MayBeLeft old.keeper left
+  lines_left keys limit [] [] old new left h may = inr (subst (λ (s : Seen K). MayBeLeft s.keeper left) (sym h) may)
+  lines_left keys limit [] (a ∷ answers) old new left h may = absurd h
+  lines_left keys limit (l ∷ lines) [] old new left h may = absurd h
+  lines_left keys limit (l ∷ lines) (a ∷ answers) old new left h may =
+      elim (lines_left keys limit lines answers h.1 new left h.4 may) [
         | inl w ↦ inl (record {
           early = l ∷ w.early;
           answers = a ∷ w.answers;
@@ -196,7 +197,7 @@ module _ {K : Type 0} (saving : Saving K) (loading : Loading K) (syncing : Synci
           is = w.is;
           among = λ line i. elim i [ inl first ↦ inl first | inr later ↦ inr (w.among line later) ];
         })
-        | inr mid ↦ elim (line_left key h.0 a old h.1 left h.3 mid) [
+        | inr mid ↦ elim (line_left keys h.0 a old h.1 left h.3 mid) [
           | inl now ↦ inl (record {
             early = l ∷ [];
             answers = a ∷ [];
@@ -206,20 +207,20 @@ module _ {K : Type 0} (saving : Saving K) (loading : Loading K) (syncing : Synci
             among = λ line i. elim i [ inl first ↦ inl first | inr none ↦ absurd none ];
           })
           | inr before ↦ elim before [
-            | inl was ↦ inl (after_none key limit (l ∷ lines) old left was)
+            | inl was ↦ inl (after_none keys limit (l ∷ lines) old left was)
             | inr early ↦ inr early
           ]
         ]
       ]
 
   pub power_fails : APowerFailureIsARun saving loading kept lasting
-  power_fails sha key limit lines answers old new left p same all heard h may =
-      let were : WereKept key limit lines old left = elim (lines_left key limit lines answers old new left h may) [
+  power_fails sha keys limit lines answers old new left p same all heard h may =
+      let were : WereKept keys limit lines old left = elim (lines_left keys limit lines answers old new left h may) [
         | inl w ↦ w
-        | inr before ↦ after_none key limit lines old left (all_left (lasting old.keeper) (kept old.keeper) left all before)
+        | inr before ↦ after_none keys limit lines old left (all_left (lasting old.keeper) (kept old.keeper) left all before)
       ] in
-      let so_far = lines_come saving loading syncing kept lasting honest sha key limit p [] true were.early were.answers old were.then
-      (λ line message i asks. are_heard key lines p.written heard line message (were.among line i) asks) were.answered (rests sha p (process_of kept old) same) in
+      let so_far = lines_come saving loading syncing kept lasting honest sha keys limit p [] true were.early were.answers old were.then
+      (λ line message i asks. are_heard keys lines p.written heard line message (were.among line i) asks) were.answered (rests sha p (process_of kept old) same) in
       same_process sha p _ (gone_with left) [] (ap gone_with were.is)
       (does_silently sha p (process_of kept were.then) (gone_with (kept were.then.keeper)) [] so_far Is_killed)
 

@@ -23,10 +23,10 @@ use Rattle.protocol.specs.Lists.{In}
 use Rattle.protocol.specs.Machine.{Told, Said, HasPart}
 use Rattle.protocol.proofs.Following.{part_refl, part_none}
 use Rattle.protocol.specs.Processes as process
-use Rattle.protocol.specs.Processes.{Coordinator, Processes, Runs, MayCome, AllMayCome, decided, batch, begin_batch, running_after, killed_after}
+use Rattle.protocol.specs.Processes.{Coordinator, Processes, MayCome, AllMayCome, decided, batch, begin_batch, running_after, killed_after}
 use Rattle.protocol.specs.Processes.CoordinatorDoes.{Works, Fails, Is_killed, Starts}
-use Rattle.protocol.specs.Processes.Happens.{Coordinator_does}
-use Rattle.protocol.specs.Processes.Runs.{Rests, Goes_on}
+use Rattle.protocol.specs.HostileProcesses.RaidHappens.{Coordinator_does}
+use Rattle.protocol.specs.HostileProcesses.RaidRuns.{Rests, Goes_on}
 use Rattle.saverecord.specs.declared.refusal.KeeperRefusal.{KeeperRefusal}
 use Rattle.saverecord.specs.declared.refusal.KeeperRefusal.TheVariants as keeper
 use Rattle.saverecord.specs.Logs.{saved_in}
@@ -47,37 +47,38 @@ use Rattle.services.specs.Served as served
 use Rattle.services.specs.Served.{joined, settled_text}
 use Rattle.coordinatorfilter.specs.Written.{fact_lines, Filters, MakesLast}
 use Rattle.coordinatorfilter.specs.Written.Filters.{Calls, Stops, Shows, Drops}
-use Rattle.coordinatorfilter.specs.Rules.{AddsEntry, IsHonest, file_saves, memory_of, process_of, with_coordinator, filter_steps, sends_of, line_messages, messages_of, settled_messages, batch_messages, gone_with, LastsWhileUp, ABatchIsARun, AKillIsARun, AStartIsARun, ABatchOverFilesIsARun, AKillOverFilesIsARun, AStartOverFilesIsARun}
+use Rattle.coordinatorfilter.specs.Rules.{AddsEntry, IsHonest, file_saves, memory_of, process_of, with_coordinator, MayBecome, filter_steps, sends_of, line_messages, messages_of, settled_messages, batch_messages, gone_with, LastsWhileUp, ABatchIsARun, AKillIsARun, AStartIsARun, ABatchOverFilesIsARun, AKillOverFilesIsARun, AStartOverFilesIsARun}
 use Rattle.services.specs.Says.{Says, AreOfTheFarm}
 use Rattle.services.specs.Says.Says.{Says_nothing}
 use Rattle.services.proofs.NoteLemmas.{lost_says, unread_says, failed_says}
 use Rattle.services.proofs.SaysLemmas.{still_in, said_of, said_both, both_say}
 use Rattle.coordinatorfilter.proofs.SaysLemmas.{shown_says, facts_say, answer_says}
+use Rattle.farmwire.specs.Sealed.{Keys}
 
 -- ---- lines from outside
 
 -- what they say to a coordinator was written
-abbrev pub AreHeard : List Message → List ℕ → List (List ℕ) → Type 0
-AreHeard written key lines = (line : List ℕ) (message : ToCoord) → In line lines → Asks key line (Handle message) → In (Said message) written
+abbrev pub AreHeard : List Message → Keys → List (List ℕ) → Type 0
+AreHeard written keys lines = (line : List ℕ) (message : ToCoord) → In line lines → Asks keys line (Handle message) → In (Said message) written
 
-pub are_heard : (key : List ℕ) (lines : List (List ℕ)) (written : List Message) → AreOfTheFarm key lines written → AreHeard written key lines
-are_heard key lines written farm line message i (Heard sealed at is) = farm sealed (Said message) (subst (λ l. In l lines) at i) is
-are_heard key lines written farm line message i (Own utf own) = absurd own
+pub are_heard : (keys : Keys) (lines : List (List ℕ)) (written : List Message) → AreOfTheFarm keys lines written → AreHeard written keys lines
+are_heard keys lines written farm line message i (Heard sealed at is) = farm sealed (Said message) (subst (λ l. In l lines) at i) is
+are_heard keys lines written farm line message i (Own utf own) = absurd own
 
 -- ---- runs of the coordinator
 
 -- the processes come so far, with what the coordinator wrote
 abbrev pub Comes : (List ℕ → Digest) → Processes → Coordinator → List Message → Type 0
-Comes sha p c messages = Runs sha farm_limits NODES p (with_coordinator p c messages)
+Comes sha p c messages = MayBecome sha p (with_coordinator p c messages)
 
 pub rests : (sha : List ℕ → Digest) (p : Processes) (c : Coordinator) → p.coordinator ≡ c → Comes sha p c []
-rests sha p c same = subst (λ (q : Processes). Runs sha farm_limits NODES p q) (λ i. record p { coordinator = same i; written = sym (append-nil p.written) i }) (Rests p)
+rests sha p c same = subst (λ (q : Processes). MayBecome sha p q) (λ i. record p { coordinator = same i; written = sym (append-nil p.written) i }) (λ took. Rests p)
 
 pub does : (sha : List ℕ → Digest) (p : Processes) (c d : Coordinator) (messages more : List Message) → Comes sha p c messages
     → process.CoordinatorDoes farm_limits NODES (p.written ++ messages) c more d → Comes sha p d (messages ++ more)
 does sha p c d messages more h step =
-    subst (λ (q : Processes). Runs sha farm_limits NODES p q) (λ i. record p { coordinator = d; written = append_assoc p.written messages more i })
-    (Goes_on p (with_coordinator p c messages) (with_coordinator (with_coordinator p c messages) d more) h (Coordinator_does more d step))
+    subst (λ (q : Processes). MayBecome sha p q) (λ i. record p { coordinator = d; written = append_assoc p.written messages more i })
+    (λ took. Goes_on p (with_coordinator p c messages) (with_coordinator (with_coordinator p c messages) d more) (h took) (Coordinator_does more d step))
 
 -- a process that is another's equal
 pub same_process : (sha : List ℕ → Digest) (p : Processes) (c d : Coordinator) (messages : List Message) → c ≡ d → Comes sha p c messages → Comes sha p d messages
@@ -258,66 +259,66 @@ module _ {K : Type 0} (saving : Saving K) (loading : Loading K) (syncing : Synci
   quiet false sha p c messages h = silently sha p c messages [] refl h
 
   -- what is handed on is the line
-  pub line_given : (limit : ℕ) (key line : List ℕ) (given : Result (List ℕ) Lost) (o : Order) → IsKept limit line given → AsksFor key given o → Orders key line o
-  line_given limit key line (Ok text) o kept asks = subst (λ t. Orders key t o) kept.1 asks
-  line_given limit key line (Err lost) o kept asks = absurd asks
+  pub line_given : (limit : ℕ) (keys : Keys) (line : List ℕ) (given : Result (List ℕ) Lost) (o : Order) → IsKept limit line given → AsksFor keys given o → Orders keys line o
+  line_given limit keys line (Ok text) o kept asks = subst (λ t. Orders keys t o) kept.1 asks
+  line_given limit keys line (Err lost) o kept asks = absurd asks
 
-  pub may_come : (key line : List ℕ) (written : List Message) (call : Call) → ((message : ToCoord) → Asks key line (Handle message) → In (Said message) written) → Asks key line call → MayCome NODES written (called call)
-  may_come key line written (Handle message) heard asks = heard message asks
-  may_come key line written (Withdraw ticket) heard asks = tt
-  may_come key line written (Prune slot) heard asks = tt
-  may_come key line written Nudge heard asks = tt
-  may_come key line written (Retire node) heard (Heard sealed is none) = absurd none
-  may_come key line written (Retire node) heard (Own utf own) = own.1
+  pub may_come : (keys : Keys) (line : List ℕ) (written : List Message) (call : Call) → ((message : ToCoord) → Asks keys line (Handle message) → In (Said message) written) → Asks keys line call → MayCome NODES written (called call)
+  may_come keys line written (Handle message) heard asks = heard message asks
+  may_come keys line written (Withdraw ticket) heard asks = tt
+  may_come keys line written (Prune slot) heard asks = tt
+  may_come keys line written Nudge heard asks = tt
+  may_come keys line written (Retire node) heard (Heard sealed is none) = absurd none
+  may_come keys line written (Retire node) heard (Own utf own) = own.1
 
-  pub line_comes : (sha : List ℕ → Digest) (key : List ℕ) (limit : ℕ) (p : Processes) (messages : List Message) (lost : Bool) (line : List ℕ) (given : Result (List ℕ) Lost) (answer : List ℕ) (old new : Seen K)
-      → ((message : ToCoord) → Asks key line (Handle message) → In (Said message) p.written) → IsKept limit line given
-      → (f : Filters saving loading kept key given answer old new) → Comes sha p (process_of kept old) messages → Comes sha p (process_of kept new) (messages ++ said_of lost (line_messages f))
-  line_comes sha key limit p messages lost line given answer old new heard is (Calls call reply asks done (inl written)) h =
+  pub line_comes : (sha : List ℕ → Digest) (keys : Keys) (limit : ℕ) (p : Processes) (messages : List Message) (lost : Bool) (line : List ℕ) (given : Result (List ℕ) Lost) (answer : List ℕ) (old new : Seen K)
+      → ((message : ToCoord) → Asks keys line (Handle message) → In (Said message) p.written) → IsKept limit line given
+      → (f : Filters saving loading kept keys given answer old new) → Comes sha p (process_of kept old) messages → Comes sha p (process_of kept new) (messages ++ said_of lost (line_messages f))
+  line_comes sha keys limit p messages lost line given answer old new heard is (Calls call reply asks done (inl written)) h =
       carried sha p messages (said_of lost (sends_of reply.answer)) (called call) old new reply
-      (may_come key line (p.written ++ messages) call (λ m a. still_in (Said m) p.written messages (heard m a)) (line_given limit key line given (order.Call call) is asks)) done h (are_said lost reply.answer)
-  line_comes sha key limit p messages lost line given answer old new heard is (Calls call reply asks done (inr out)) h =
+      (may_come keys line (p.written ++ messages) call (λ m a. still_in (Said m) p.written messages (heard m a)) (line_given limit keys line given (order.Call call) is asks)) done h (are_said lost reply.answer)
+  line_comes sha keys limit p messages lost line given answer old new heard is (Calls call reply asks done (inr out)) h =
       carried sha p messages (said_of lost []) (called call) old new reply
-      (may_come key line (p.written ++ messages) call (λ m a. still_in (Said m) p.written messages (heard m a)) (line_given limit key line given (order.Call call) is asks)) done h (none_said lost reply.answer)
-  line_comes sha key limit p messages lost line given answer old new heard is (Stops call asks restart out) h =
+      (may_come keys line (p.written ++ messages) call (λ m a. still_in (Said m) p.written messages (heard m a)) (line_given limit keys line given (order.Call call) is asks)) done h (none_said lost reply.answer)
+  line_comes sha keys limit p messages lost line given answer old new heard is (Stops call asks restart out) h =
       quiet lost sha p (process_of kept new) messages (restarted_if sha p messages old.down old new restart.0 restart.1 h)
-  line_comes sha key limit p messages lost line given answer old new heard is (Shows question asks same text) h =
+  line_comes sha keys limit p messages lost line given answer old new heard is (Shows question asks same text) h =
       quiet lost sha p (process_of kept new) messages (same_process sha p _ _ messages (ap (process_of kept) (sym same)) h)
-  line_comes sha key limit p messages lost line given answer old new heard is (Drops why asks same text) h =
+  line_comes sha keys limit p messages lost line given answer old new heard is (Drops why asks same text) h =
       quiet lost sha p (process_of kept new) messages (same_process sha p _ _ messages (ap (process_of kept) (sym same)) h)
 
-  pub lines_come : (sha : List ℕ → Digest) (key : List ℕ) (limit : ℕ) (p : Processes) (messages : List Message) (lost : Bool) (lines answers : List (List ℕ)) (old new : Seen K)
-      → AreHeard p.written key lines → (h : served.Answers (filter_steps saving loading kept key) limit old lines answers new)
-      → Comes sha p (process_of kept old) messages → Comes sha p (process_of kept new) (messages ++ said_of lost (messages_of saving loading kept key limit old new lines answers h))
-  lines_come sha key limit p messages lost [] [] old new heard h c = quiet lost sha p (process_of kept new) messages (same_process sha p _ _ messages (ap (process_of kept) h) c)
-  lines_come sha key limit p messages lost [] (a ∷ answers) old new heard h c = absurd h
-  lines_come sha key limit p messages lost (l ∷ lines) [] old new heard h c = absurd h
-  lines_come sha key limit p messages lost (l ∷ lines) (a ∷ answers) old new heard h c =
+  pub lines_come : (sha : List ℕ → Digest) (keys : Keys) (limit : ℕ) (p : Processes) (messages : List Message) (lost : Bool) (lines answers : List (List ℕ)) (old new : Seen K)
+      → AreHeard p.written keys lines → (h : served.Answers (filter_steps saving loading kept keys) limit old lines answers new)
+      → Comes sha p (process_of kept old) messages → Comes sha p (process_of kept new) (messages ++ said_of lost (messages_of saving loading kept keys limit old new lines answers h))
+  lines_come sha keys limit p messages lost [] [] old new heard h c = quiet lost sha p (process_of kept new) messages (same_process sha p _ _ messages (ap (process_of kept) h) c)
+  lines_come sha keys limit p messages lost [] (a ∷ answers) old new heard h c = absurd h
+  lines_come sha keys limit p messages lost (l ∷ lines) [] old new heard h c = absurd h
+  lines_come sha keys limit p messages lost (l ∷ lines) (a ∷ answers) old new heard h c =
       let said : List Message = said_of lost (line_messages h.3) in
-      let more : List Message = messages_of saving loading kept key limit h.1 new lines answers h.4 in
-      let first = line_comes sha key limit p messages lost l h.0 a old h.1 (λ m asks. heard l m (inl refl) asks) h.2 h.3 c in
-      let rest = lines_come sha key limit p (messages ++ said) lost lines answers h.1 new (λ line m i asks. heard line m (inr i) asks) h.4 first in
+      let more : List Message = messages_of saving loading kept keys limit h.1 new lines answers h.4 in
+      let first = line_comes sha keys limit p messages lost l h.0 a old h.1 (λ m asks. heard l m (inl refl) asks) h.2 h.3 c in
+      let rest = lines_come sha keys limit p (messages ++ said) lost lines answers h.1 new (λ line m i asks. heard line m (inr i) asks) h.4 first in
       subst (Comes sha p (process_of kept new)) (append_assoc messages said (said_of lost more) ∙ ap (λ ms. messages ++ ms) (said_both lost (line_messages h.3) more)) rest
 
   -- what is written says them
-  line_says : (key : List ℕ) (given : Result (List ℕ) Lost) (answer : List ℕ) (old new : Seen K)
-      → (f : Filters saving loading kept key given answer old new) → Says key (line_messages f) answer
-  line_says key given answer old new (Calls call reply asks done (inl written)) = answer_says key (fact_lines reply) reply.answer answer (facts_say key reply) written
-  line_says key given answer old new (Calls call reply asks done (inr out)) = subst (Says key []) (sym out) (lost_says key)
-  line_says key given answer old new (Stops call asks restart out) = subst (Says key []) (sym out) (lost_says key)
-  line_says key given answer old new (Shows question asks same (inl text)) = shown_says key old.held question answer text
-  line_says key given answer old new (Shows question asks same (inr out)) = subst (Says key []) (sym out) (lost_says key)
-  line_says key given answer old new (Drops why asks same (inl text)) = subst (Says key []) (sym text) (unread_says key why)
-  line_says key given answer old new (Drops why asks same (inr out)) = subst (Says key []) (sym out) (lost_says key)
+  line_says : (keys : Keys) (given : Result (List ℕ) Lost) (answer : List ℕ) (old new : Seen K)
+      → (f : Filters saving loading kept keys given answer old new) → Says keys (line_messages f) answer
+  line_says keys given answer old new (Calls call reply asks done (inl written)) = answer_says keys (fact_lines reply) reply.answer answer (facts_say keys reply) written
+  line_says keys given answer old new (Calls call reply asks done (inr out)) = subst (Says keys []) (sym out) (lost_says keys)
+  line_says keys given answer old new (Stops call asks restart out) = subst (Says keys []) (sym out) (lost_says keys)
+  line_says keys given answer old new (Shows question asks same (inl text)) = shown_says keys old.held question answer text
+  line_says keys given answer old new (Shows question asks same (inr out)) = subst (Says keys []) (sym out) (lost_says keys)
+  line_says keys given answer old new (Drops why asks same (inl text)) = subst (Says keys []) (sym text) (unread_says keys why)
+  line_says keys given answer old new (Drops why asks same (inr out)) = subst (Says keys []) (sym out) (lost_says keys)
 
-  lines_say : (key : List ℕ) (limit : ℕ) (lines answers : List (List ℕ)) (old new : Seen K)
-      → (h : served.Answers (filter_steps saving loading kept key) limit old lines answers new) → Says key (messages_of saving loading kept key limit old new lines answers h) (joined answers)
-  lines_say key limit [] [] old new h = Says_nothing
-  lines_say key limit [] (a ∷ answers) old new h = absurd h
-  lines_say key limit (l ∷ lines) [] old new h = absurd h
-  lines_say key limit (l ∷ lines) (a ∷ answers) old new h =
-      both_say key (line_messages h.3) (messages_of saving loading kept key limit h.1 new lines answers h.4) a (joined answers)
-      (line_says key h.0 a old h.1 h.3) (lines_say key limit lines answers h.1 new h.4)
+  lines_say : (keys : Keys) (limit : ℕ) (lines answers : List (List ℕ)) (old new : Seen K)
+      → (h : served.Answers (filter_steps saving loading kept keys) limit old lines answers new) → Says keys (messages_of saving loading kept keys limit old new lines answers h) (joined answers)
+  lines_say keys limit [] [] old new h = Says_nothing
+  lines_say keys limit [] (a ∷ answers) old new h = absurd h
+  lines_say keys limit (l ∷ lines) [] old new h = absurd h
+  lines_say keys limit (l ∷ lines) (a ∷ answers) old new h =
+      both_say keys (line_messages h.3) (messages_of saving loading kept keys limit h.1 new lines answers h.4) a (joined answers)
+      (line_says keys h.0 a old h.1 h.3) (lines_say keys limit lines answers h.1 new h.4)
 
   -- ---- batches
 
@@ -339,37 +340,37 @@ module _ {K : Type 0} (saving : Saving K) (loading : Loading K) (syncing : Synci
   restart_lasts old new (Err TenureHeld) down r up = absurd r
   restart_lasts old new (Err NodeRetired) down r up = absurd r
 
-  pub made : (sha : List ℕ → Digest) (key : List ℕ) (limit : ℕ) (lines answers : List (List ℕ)) (settled : Settled) (old mid new : Seen K) (p : Processes)
-      → Comes sha p (process_of kept old) [] → AreHeard p.written key lines → (h : served.Answers (filter_steps saving loading kept key) limit old lines answers mid)
+  pub made : (sha : List ℕ → Digest) (keys : Keys) (limit : ℕ) (lines answers : List (List ℕ)) (settled : Settled) (old mid new : Seen K) (p : Processes)
+      → Comes sha p (process_of kept old) [] → AreHeard p.written keys lines → (h : served.Answers (filter_steps saving loading kept keys) limit old lines answers mid)
       → MakesLast syncing loading kept lasting mid settled new →
-      let messages : List Message = settled_messages settled (messages_of saving loading kept key limit old mid lines answers h) in
-      Comes sha p (process_of kept new) messages × LastsWhileUp kept new lasting × Says key messages (settled_text settled answers)
-  made sha key limit lines answers Lasts old mid new p comes heard h s = (
-    same_process sha p _ _ (messages_of saving loading kept key limit old mid lines answers h) (process_is mid new s.0.1 s.0.2 (honest.syncs mid.keeper true new.keeper s.0.0))
-        (lines_come sha key limit p [] false lines answers old mid heard h comes),
+      let messages : List Message = settled_messages settled (messages_of saving loading kept keys limit old mid lines answers h) in
+      Comes sha p (process_of kept new) messages × LastsWhileUp kept new lasting × Says keys messages (settled_text settled answers)
+  made sha keys limit lines answers Lasts old mid new p comes heard h s = (
+    same_process sha p _ _ (messages_of saving loading kept keys limit old mid lines answers h) (process_is mid new s.0.1 s.0.2 (honest.syncs mid.keeper true new.keeper s.0.0))
+        (lines_come sha keys limit p [] false lines answers old mid heard h comes),
     λ up. s.1,
-    lines_say key limit lines answers old mid h,
+    lines_say keys limit lines answers old mid h,
   )
-  made sha key limit lines answers (Failed restart) old mid new p comes heard h s =
+  made sha keys limit lines answers (Failed restart) old mid new p comes heard h s =
       let failed = s.0 in
-      let silent : Comes sha p (process_of kept mid) [] = lines_come sha key limit p [] true lines answers old mid heard h comes in
+      let silent : Comes sha p (process_of kept mid) [] = lines_come sha keys limit p [] true lines answers old mid heard h comes in
       let killed = does_silently sha p (process_of kept mid) (record (process_of kept mid) { memory = None }) [] silent Is_killed in
       let is_failed = same_process sha p _ (process_of kept failed) []
       (λ i. record { memory = (ap (λ b. memory_of b (ledger failed.held)) (sym s.1.2)) i; disk = saved_in (sym (honest.syncs mid.keeper false failed.keeper s.1.0) i) }) killed in (
         restarted sha p [] failed new restart s.2 is_failed,
         restart_lasts failed new restart s.1.2 s.2,
-        failed_says key restart answers,
+        failed_says keys restart answers,
       )
 
   pub a_batch_is_a_run : ABatchIsARun saving loading syncing kept lasting
-  a_batch_is_a_run sha key limit lines text old new p same heard b =
-      let done = made sha key limit lines b.answers b.settled old b.answered_to new p (rests sha p (process_of kept old) same) (are_heard key lines p.written heard) b.answered b.made in
-      (done.0, done.1, subst (Says key (batch_messages saving loading syncing kept lasting key limit lines text old new b)) (sym b.text_is) done.2)
+  a_batch_is_a_run sha keys limit lines text old new p same heard b =
+      let done = made sha keys limit lines b.answers b.settled old b.answered_to new p (rests sha p (process_of kept old) same) (are_heard keys lines p.written heard) b.answered b.made in
+      (done.0, done.1, subst (Says keys (batch_messages saving loading syncing kept lasting keys limit lines text old new b)) (sym b.text_is) done.2)
 
   pub a_kill_is_a_run : AKillIsARun saving loading kept
-  a_kill_is_a_run sha key limit lines answers old new p same heard h =
+  a_kill_is_a_run sha keys limit lines answers old new p same heard h =
       does_silently sha p (process_of kept new) (gone_with (kept new.keeper)) []
-      (lines_come sha key limit p [] true lines answers old new (are_heard key lines p.written heard) h (rests sha p (process_of kept old) same)) Is_killed
+      (lines_come sha keys limit p [] true lines answers old new (are_heard keys lines p.written heard) h (rests sha p (process_of kept old) same)) Is_killed
 
   pub a_start_is_a_run : AStartIsARun loading kept lasting
   a_start_is_a_run sha keeper new p same taken =

@@ -1,5 +1,5 @@
 -- What a coordinator does of a call, with the restarts that go with it (this project's own).
-use Rattle.std.specs.Prelude.{◌≡◌, Bool, true, false, List, filter, map, Option, Some, None, Result, Ok, ⊤}
+use Rattle.std.specs.Prelude.{◌≡◌, Bool, true, false, List, [], filter, map, Option, Some, None, Result, Ok, ⊤}
 use Rattle.ledger.specs.declared.handled.Handled.{Handled}
 use Rattle.coordinator.specs.Held.{ledger, life_at}
 use Rattle.coordinator.specs.Seen.{Seen}
@@ -53,9 +53,11 @@ ends call lease = false
 abbrev pub ended_of : Lease → Ended
 ended_of lease = record { ticket = lease.ticket; node = lease.node }
 
--- those of these leases, in order
+-- those of these leases, in order; of a message, a prune or a nudge none
 abbrev pub ended_by : process.Call → List Lease → List Ended
-ended_by call live = map ended_of (filter (ends call) live)
+ended_by (process.Withdraw ticket) live = map ended_of (filter (ends (process.Withdraw ticket)) live)
+ended_by (process.Retire node) live = map ended_of (filter (ends (process.Retire node)) live)
+ended_by call live = []
 
 -- the process of a message that isn't heard: of an older life than was seen, or of a node that is retired
 abbrev pub unheard : ToCoord → CoordNote → List NodeLife → Option Over

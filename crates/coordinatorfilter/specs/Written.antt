@@ -27,6 +27,7 @@ use Rattle.services.specs.Outside.{Sends}
 use Rattle.services.specs.Served.{OrLost, out_of_memory, restart_line}
 use Rattle.coordinatorfilter.specs.Shown.{IsShown}
 use Rattle.services.specs.Unreads.{unread_line}
+use Rattle.farmwire.specs.Sealed.{Keys}
 
 -- ---- facts and notes
 
@@ -63,30 +64,30 @@ refused_line refusal = codes "= refused " ++ (coord_refusal_text refusal ++ code
 -- ---- answers
 
 -- what is written of an answer, with these facts
-abbrev pub IsAnswered : List ℕ → List ℕ → Result Handled CoordRefusal → List ℕ → Type 0
-IsAnswered key facts (Ok handled) text = (sent : List ℕ) × Sends key (map Told handled.sends) [] sent
+abbrev pub IsAnswered : Keys → List ℕ → Result Handled CoordRefusal → List ℕ → Type 0
+IsAnswered keys facts (Ok handled) text = (sent : List ℕ) × Sends keys (map Told handled.sends) [] sent
     × (text ≡ sent ++ (facts ++ note_line handled.note))
-IsAnswered key facts (Err refusal) text = text ≡ facts ++ refused_line refusal
+IsAnswered keys facts (Err refusal) text = text ≡ facts ++ refused_line refusal
 
 -- the messages, then the facts, then the note
-abbrev pub IsWritten : List ℕ → Reply → List ℕ → Type 0
-IsWritten key reply text = IsAnswered key (fact_lines reply) reply.answer text
+abbrev pub IsWritten : Keys → Reply → List ℕ → Type 0
+IsWritten keys reply text = IsAnswered keys (fact_lines reply) reply.answer text
 
 -- a line is answered: the call that it asks for is carried out; or memory runs out before it; or what it asks for is
 -- shown; or it asks for nothing
-pub data Filters {K : Type 0} (saving : Saving K) (loading : Loading K) (kept : K → Texts) (key : List ℕ)
+pub data Filters {K : Type 0} (saving : Saving K) (loading : Loading K) (kept : K → Texts) (keys : Keys)
     (given : Result (List ℕ) Lost)
     (answer : List ℕ) (old new : Seen K) : Type 0 where
-  Calls : (call : Call) (reply : Reply) → AsksFor key given (order.Call call)
+  Calls : (call : Call) (reply : Reply) → AsksFor keys given (order.Call call)
       → CarriesOut saving loading kept (called call) old new reply
-      → OrLost (IsWritten key reply) answer → Filters saving loading kept key given answer old new
-  Stops : (call : Call) → AsksFor key given (order.Call call) → OnlyRestarts loading (kept old.keeper) old new
-      → answer ≡ out_of_memory → Filters saving loading kept key given answer old new
-  Shows : (question : Question) → AsksFor key given (order.Show question) → new ≡ old
+      → OrLost (IsWritten keys reply) answer → Filters saving loading kept keys given answer old new
+  Stops : (call : Call) → AsksFor keys given (order.Call call) → OnlyRestarts loading (kept old.keeper) old new
+      → answer ≡ out_of_memory → Filters saving loading kept keys given answer old new
+  Shows : (question : Question) → AsksFor keys given (order.Show question) → new ≡ old
       → OrLost (IsShown old.held question) answer
-      → Filters saving loading kept key given answer old new
-  Drops : (why : Unread) → AsksNothing key given why → new ≡ old → OrLost (λ text. text ≡ unread_line why) answer
-      → Filters saving loading kept key given answer old new
+      → Filters saving loading kept keys given answer old new
+  Drops : (why : Unread) → AsksNothing keys given why → new ≡ old → OrLost (λ text. text ≡ unread_line why) answer
+      → Filters saving loading kept keys given answer old new
 
 -- ---- what was answered is made to last
 

@@ -1,12 +1,12 @@
 //! Calls that are carried out.
-ghost use Rattle.std.specs.Prelude.{◌≡◌, IfOk, OnErr};
+ghost use Rattle.std.specs.Prelude.{◌≡◌, IfOk, OnErr, filter, map};
 ghost use Rattle.coordinator.specs.Held.{ledger, life_at};
 ghost use Rattle.coordinator.specs.Settling.{Settles};
 ghost use Rattle.ledger.specs.Settling.{is_save_fault};
 ghost use Rattle.protocol.specs.Farm.{farm_limits};
 ghost use Rattle.protocol.specs.Processes.{decided};
 ghost use Rattle.coordinatorlines.specs.Calls.{called, MayBeMade};
-ghost use Rattle.coordinatorfilter.specs.Carried.{RestartsIf, OnlyRestarts, ends, ended_by, unheard, over_of, CarriesOut};
+ghost use Rattle.coordinatorfilter.specs.Carried.{RestartsIf, OnlyRestarts, ends, ended_of, ended_by, unheard, over_of, CarriesOut};
 
 use super::reply::{Ended, Over, Reply};
 use coordinator::{Coordinator, Handled};
@@ -61,9 +61,9 @@ fn ends(call: &Call, lease: &Lease) -> bool
     }
 }
 
-/// The leases that the call ends, if it isn't refused.
-fn ended_by(alloc: Global, call: &Call, live: &[Lease]) -> Result<Items<Ended>, AllocError>
-    ensures { IfOk result (λ ended. ended ≡ ended_by (called call.now) live.now) }
+/// Those of these leases that the call ends, if it isn't refused.
+fn ended_of(alloc: Global, call: &Call, live: &[Lease]) -> Result<Items<Ended>, AllocError>
+    ensures { IfOk result (λ ended. ended ≡ map ended_of (filter (ends (called call.now)) live.now)) }
 {
     let mut ended = Vec::new(alloc);
     for lease in live {
@@ -75,6 +75,17 @@ fn ended_by(alloc: Global, call: &Call, live: &[Lease]) -> Result<Items<Ended>, 
         }
     }
     Ok(Items::new(ended))
+}
+
+/// The leases that the call ends, if it isn't refused. Only the operator's calls end others' leases: for all else no lease is looked at.
+fn ended_by(alloc: Global, call: &Call, live: &[Lease]) -> Result<Items<Ended>, AllocError>
+    ensures { IfOk result (λ ended. ended ≡ ended_by (called call.now) live.now) }
+{
+    match call {
+        Call::Withdraw(_) => ended_of(alloc, call, live),
+        Call::Retire(_) => ended_of(alloc, call, live),
+        _ => Ok(Items::new(Vec::new(alloc))),
+    }
 }
 
 /// The greatest life seen of a node, 0 where none was.

@@ -20,7 +20,7 @@ fn last_digest(alloc: Global, line: Option<&Line>) -> Digest
 {
     match line {
         None => empty_digest(alloc),
-        Some(line) => line.digest_at(line.len()).unwrap_or(empty_digest(alloc)),
+        Some(line) => versions::last_digest(alloc, line),
     }
 }
 

@@ -5,12 +5,13 @@ ghost use Rattle.std.specs.String.{string_bytes};
 ghost use Rattle.schedule.specs.RefusalNames.{coord_refusal_text};
 ghost use Rattle.protocol.specs.Machine.{Told};
 ghost use Rattle.coordinatorfilter.specs.Written.{restart_lines, ended_line, over_lines, fact_lines, note_line, IsAnswered, IsWritten};
+ghost use Rattle.farmwire.specs.Sealed.{key_in};
 
 use super::reply::{Ended, Over, Reply};
 use coordinator::Handled;
 use events::{CoordNote, CoordRefusal, EventNote, EventRefusal};
 use farm_base::{FromCoord, Items, Message, ToNode};
-use farmwire::FarmKey;
+use farmwire::Keyring;
 use schedule::{print_note, refusal_name};
 use services::push_messages;
 use std::alloc::{AllocError, Global};
@@ -120,29 +121,29 @@ fn push_facts(alloc: Global, text: &mut String, reply: &Reply) -> Result<(), All
 /// The text of what was done: the messages, these facts and the note.
 fn print_handled(
     alloc: Global,
-    key: &FarmKey,
+    keys: &Keyring,
     facts: &str,
     handled: Handled,
 ) -> Result<String, AllocError>
-    ensures { IfOk result (λ text. IsAnswered key.now facts.now (Ok handled) (string_bytes text)) }
+    ensures { IfOk result (λ text. IsAnswered (key_in keys.now) facts.now (Ok handled) (string_bytes text)) }
 {
     let messages = told(alloc, handled.sends)?;
     let mut text = String::new(alloc);
-    push_messages(alloc, key, &mut text, messages.as_slice())?;
+    push_messages(alloc, keys, &mut text, messages.as_slice())?;
     text.push_str(facts)?;
     push_note(alloc, &mut text, handled.note)?;
     Ok(text)
 }
 
 /// The text of what came of a call: the messages, the facts and the note.
-pub(crate) fn print_reply(alloc: Global, key: &FarmKey, reply: Reply) -> Result<String, AllocError>
-    ensures { IfOk result (λ text. IsWritten key.now reply (string_bytes text)) }
+pub(crate) fn print_reply(alloc: Global, keys: &Keyring, reply: Reply) -> Result<String, AllocError>
+    ensures { IfOk result (λ text. IsWritten (key_in keys.now) reply (string_bytes text)) }
 {
     let mut facts = String::new(alloc);
     push_facts(alloc, &mut facts, &reply)?;
     let Reply { answer, .. } = reply;
     match answer {
-        Ok(handled) => print_handled(alloc, key, facts.as_str(), handled),
+        Ok(handled) => print_handled(alloc, keys, facts.as_str(), handled),
         Err(refusal) => {
             push_refusal(&mut facts, "= refused ", refusal)?;
             Ok(facts)

@@ -14,6 +14,7 @@ use Rattle.coordinatorlines.specs.declared.call.Order.TheVariants as order
 use Rattle.services.specs.declared.lost.Lost.{Lost}
 use Rattle.coordinatorlines.specs.Calls.{MayBeMade, IsOwn, IsHeard, Asks, AsksFor}
 use Rattle.coordinatorlines.specs.Calls.Asks.{Heard, Own}
+use Rattle.farmwire.specs.Sealed.{Keys}
 
 tenure_asked : (wants : List Want) → wire.IsTenure wants → AreAsked true wants
 tenure_asked wants h = record {
@@ -32,12 +33,12 @@ requested (Release t) h = tt
 pub said : (y : ToCoord) → wire.IsSaid y → IsSaid NODES y
 said y h = record { speaker = record { node = h.node; life = h.life.0 }; request = requested y.request h.request }
 
-heard : (key sealed : List ℕ) (call : Call) → IsHeard key sealed call → MayBeMade call
-heard key sealed (Handle message) h = said message h.lawful
-heard key sealed (Withdraw ticket) h = absurd h
-heard key sealed (Retire node) h = absurd h
-heard key sealed (Prune slot) h = absurd h
-heard key sealed Nudge h = absurd h
+heard : (keys : Keys) (sealed : List ℕ) (call : Call) → IsHeard keys sealed call → MayBeMade call
+heard keys sealed (Handle message) h = said message h.lawful
+heard keys sealed (Withdraw ticket) h = absurd h
+heard keys sealed (Retire node) h = absurd h
+heard keys sealed (Prune slot) h = absurd h
+heard keys sealed Nudge h = absurd h
 
 own : (text : List ℕ) (call : Call) → IsOwn text call → MayBeMade call
 own text (Handle message) h = absurd h
@@ -46,11 +47,11 @@ own text (Retire node) (is, range) = range
 own text (Prune slot) h = tt
 own text Nudge h = tt
 
-asked : (key text : List ℕ) (call : Call) → Asks key text call → MayBeMade call
-asked key text call (Heard sealed is h) = heard key sealed call h
-asked key text call (Own utf8 h) = own text call h
+asked : (keys : Keys) (text : List ℕ) (call : Call) → Asks keys text call → MayBeMade call
+asked keys text call (Heard sealed is h) = heard keys sealed call h
+asked keys text call (Own utf8 h) = own text call h
 
 -- so the call that is asked for can be made
-pub may_be_made : (key : List ℕ) (given : Result (List ℕ) Lost) (call : Call) → AsksFor key given (order.Call call) → MayBeMade call
-may_be_made key (Ok text) call h = asked key text call h
-may_be_made key (Err lost) call h = absurd h
+pub may_be_made : (keys : Keys) (given : Result (List ℕ) Lost) (call : Call) → AsksFor keys given (order.Call call) → MayBeMade call
+may_be_made keys (Ok text) call h = asked keys text call h
+may_be_made keys (Err lost) call h = absurd h

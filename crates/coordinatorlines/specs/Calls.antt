@@ -9,7 +9,7 @@ use Rattle.names.specs.declared.number.Ticket.{Ticket}
 use Rattle.names.specs.Names.{slot_text, IsSlot}
 use Rattle.names.specs.Slots.{SlotParts}
 use Rattle.farmwire.specs.declared.refusal.LineFault.TheVariants as line
-use Rattle.farmwire.specs.Sealed.{IsSealed, IsFault}
+use Rattle.farmwire.specs.Sealed.{IsSealed, IsFault, Keys}
 use Rattle.protocol.specs.Lawful.{IsNumber, IsSaid}
 use Rattle.protocol.specs.Processes as process
 use Rattle.coordinatorlines.specs.declared.call.Call.{Call}
@@ -71,28 +71,28 @@ IsQuestion text Needed = text ≡ codes "needed"
 -- ---- what came from outside
 
 -- what stands behind `m ` is the sealed line of what a node says
-abbrev pub IsHeard : List ℕ → List ℕ → Call → Type 0
-IsHeard key sealed (Handle message) = IsSealed key sealed (to.ToCoord message)
-IsHeard key sealed (Withdraw ticket) = ⊥
-IsHeard key sealed (Retire node) = ⊥
-IsHeard key sealed (Prune slot) = ⊥
-IsHeard key sealed Nudge = ⊥
+abbrev pub IsHeard : Keys → List ℕ → Call → Type 0
+IsHeard keys sealed (Handle message) = IsSealed keys sealed (to.ToCoord message)
+IsHeard keys sealed (Withdraw ticket) = ⊥
+IsHeard keys sealed (Retire node) = ⊥
+IsHeard keys sealed (Prune slot) = ⊥
+IsHeard keys sealed Nudge = ⊥
 
 -- what stands behind `m ` is no such line
-abbrev pub IsDropped : List ℕ → List ℕ → Unread → Type 0
-IsDropped key sealed TooLong = IsFault key sealed line.TooLong
-IsDropped key sealed BadMac = IsFault key sealed line.BadMac
-IsDropped key sealed BadForm = IsFault key sealed line.BadForm
-IsDropped key sealed NotMine = (message : ToNode) × IsSealed key sealed (to.ToNode message)
-IsDropped key sealed BadLine = ⊥
-IsDropped key sealed OutOfMemory = Unit {0}
+abbrev pub IsDropped : Keys → List ℕ → Unread → Type 0
+IsDropped keys sealed TooLong = IsFault keys sealed line.TooLong
+IsDropped keys sealed BadMac = IsFault keys sealed line.BadMac
+IsDropped keys sealed BadForm = IsFault keys sealed line.BadForm
+IsDropped keys sealed NotMine = (message : ToNode) × IsSealed keys sealed (to.ToNode message)
+IsDropped keys sealed BadLine = ⊥
+IsDropped keys sealed OutOfMemory = Unit {0}
 
 -- ---- a line
 
 -- the line asks for the call
-pub data Asks (key text : List ℕ) (call : Call) : Type 0 where
-  Heard : (sealed : List ℕ) → text ≡ from_outside sealed → IsHeard key sealed call → Asks key text call
-  Own : IsUtf8 text → IsOwn text call → Asks key text call
+pub data Asks (keys : Keys) (text : List ℕ) (call : Call) : Type 0 where
+  Heard : (sealed : List ℕ) → text ≡ from_outside sealed → IsHeard keys sealed call → Asks keys text call
+  Own : IsUtf8 text → IsOwn text call → Asks keys text call
 
 -- the operator's line says this
 abbrev pub IsOperators : List ℕ → Order → Type 0
@@ -100,9 +100,9 @@ IsOperators text (order.Call call) = IsOwn text call
 IsOperators text (order.Show question) = IsQuestion text question
 
 -- the line asks for this
-abbrev pub Orders : List ℕ → List ℕ → Order → Type 0
-Orders key text (order.Call call) = Asks key text call
-Orders key text (order.Show question) = IsUtf8 text × IsQuestion text question
+abbrev pub Orders : Keys → List ℕ → Order → Type 0
+Orders keys text (order.Call call) = Asks keys text call
+Orders keys text (order.Show question) = IsUtf8 text × IsQuestion text question
 
 -- the line is neither from outside nor the operator's
 pub record IsBadLine (text : List ℕ) : Type 0 where
@@ -110,17 +110,17 @@ pub record IsBadLine (text : List ℕ) : Type 0 where
   pub not_own : IsUtf8 text → (asked : Order) → IsOperators text asked → ⊥
 
 -- the line asks for nothing, and this is why
-abbrev pub IsUnread : List ℕ → List ℕ → Unread → Type 0
-IsUnread key text BadLine = IsBadLine text
-IsUnread key text OutOfMemory = Unit {0}
-IsUnread key text why = (sealed : List ℕ) × (text ≡ from_outside sealed) × IsDropped key sealed why
+abbrev pub IsUnread : Keys → List ℕ → Unread → Type 0
+IsUnread keys text BadLine = IsBadLine text
+IsUnread keys text OutOfMemory = Unit {0}
+IsUnread keys text why = (sealed : List ℕ) × (text ≡ from_outside sealed) × IsDropped keys sealed why
 
 -- what was handed on asks for this
-abbrev pub AsksFor : List ℕ → Result (List ℕ) Lost → Order → Type 0
-AsksFor key (Ok text) asked = Orders key text asked
-AsksFor key (Err why) asked = ⊥
+abbrev pub AsksFor : Keys → Result (List ℕ) Lost → Order → Type 0
+AsksFor keys (Ok text) asked = Orders keys text asked
+AsksFor keys (Err why) asked = ⊥
 
 -- what was handed on asks for nothing, and this is why
-abbrev pub AsksNothing : List ℕ → Result (List ℕ) Lost → Unread → Type 0
-AsksNothing key (Ok text) why = IsUnread key text why
-AsksNothing key (Err lost) why = why ≡ lost_line lost
+abbrev pub AsksNothing : Keys → Result (List ℕ) Lost → Unread → Type 0
+AsksNothing keys (Ok text) why = IsUnread keys text why
+AsksNothing keys (Err lost) why = why ≡ lost_line lost

@@ -10,12 +10,13 @@ ghost use Rattle.coordinatorlines.specs.declared.call.Call.{Call};
 ghost use Rattle.coordinatorlines.specs.declared.call.Order.{Order};
 ghost use Rattle.coordinatorlines.specs.declared.call.Question.{Question};
 ghost use Rattle.coordinatorlines.specs.Calls.{withdraw_line, retire_line, IsOwn, IsQuestion, IsOperators, IsHeard, IsDropped, IsUnread, Orders, AsksFor, AsksNothing};
+ghost use Rattle.farmwire.specs.Sealed.{key_in};
 
 use super::call::{Call, Order, Question};
 use farm_base::laws::is_slot;
 use farm_base::reading::{after, number};
 use farm_base::{Items, Message, NODES, NodeId, Slot, SlotRefusal, Ticket};
-use farmwire::{FarmKey, open};
+use farmwire::{Keyring, open};
 use services::{Lost, Unread, from_outside, lost_line, unread_of};
 use std::alloc::Global;
 
@@ -128,11 +129,11 @@ fn own_order(alloc: Global, line: &str) -> Result<Order, Unread>
 }
 
 /// The call that a sealed line asks for.
-fn heard_call(alloc: Global, key: &FarmKey, sealed: &[u8]) -> Result<Call, Unread>
-    ensures heard { IfOk result (IsHeard key.now sealed.now) }
-    ensures dropped { IfErr result (IsDropped key.now sealed.now) }
+fn heard_call(alloc: Global, keys: &Keyring, sealed: &[u8]) -> Result<Call, Unread>
+    ensures heard { IfOk result (IsHeard (key_in keys.now) sealed.now) }
+    ensures dropped { IfErr result (IsDropped (key_in keys.now) sealed.now) }
 {
-    match open(alloc, key, sealed) {
+    match open(alloc, keys, sealed) {
         Ok(Message::ToCoord(message)) => Ok(Call::Handle(message)),
         Ok(Message::ToNode(_)) => Err(Unread::NotMine),
         Err(fault) => Err(unread_of(fault)),
@@ -140,12 +141,12 @@ fn heard_call(alloc: Global, key: &FarmKey, sealed: &[u8]) -> Result<Call, Unrea
 }
 
 /// What a line asks for.
-fn order_of(alloc: Global, key: &FarmKey, line: &[u8]) -> Result<Order, Unread>
-    ensures asked { IfOk result (Orders key.now line.now) }
-    ensures unread { IfErr result (IsUnread key.now line.now) }
+fn order_of(alloc: Global, keys: &Keyring, line: &[u8]) -> Result<Order, Unread>
+    ensures asked { IfOk result (Orders (key_in keys.now) line.now) }
+    ensures unread { IfErr result (IsUnread (key_in keys.now) line.now) }
 {
     if let Some(sealed) = from_outside(line) {
-        return Ok(Order::Call(heard_call(alloc, key, sealed)?));
+        return Ok(Order::Call(heard_call(alloc, keys, sealed)?));
     }
     match str::from_utf8(line) {
         Ok(line) => own_order(alloc, line),
@@ -154,12 +155,12 @@ fn order_of(alloc: Global, key: &FarmKey, line: &[u8]) -> Result<Order, Unread>
 }
 
 /// What is asked for by what is handed on.
-pub fn asked(alloc: Global, key: &FarmKey, line: Result<Items<u8>, Lost>) -> Result<Order, Unread>
-    ensures asked { IfOk result (AsksFor key.now line) }
-    ensures nothing { IfErr result (AsksNothing key.now line) }
+pub fn asked(alloc: Global, keys: &Keyring, line: Result<Items<u8>, Lost>) -> Result<Order, Unread>
+    ensures asked { IfOk result (AsksFor (key_in keys.now) line) }
+    ensures nothing { IfErr result (AsksNothing (key_in keys.now) line) }
 {
     match line {
-        Ok(line) => order_of(alloc, key, line.as_slice()),
+        Ok(line) => order_of(alloc, keys, line.as_slice()),
         Err(lost) => Err(lost_line(lost)),
     }
 }

@@ -1,5 +1,5 @@
 -- What stands in a line has no LF, whatever its numbers and bytes.
-use Rattle.std.proofs.Common.{◌≡◌, ◌≢◌, ℕ, zero, suc, ◌+◌, ◌/◌, ◌%◌, ◌==◌, Bool, true, false, List, [], ◌∷◌, ◌++◌, map, Option, Some, None, slice_index, inl, inr, refl, sym, ap, subst, arith}
+use Rattle.std.proofs.Common.{◌≡◌, ◌≢◌, ℕ, zero, suc, ◌+◌, ◌/◌, ◌%◌, ◌==◌, Bool, true, false, List, [], ◌∷◌, ◌++◌, map, codes, Option, Some, None, slice_index, inl, inr, refl, sym, ap, subst, arith}
 use Rattle.std.specs.Prelude.{decimal, nat_lt}
 use Rattle.std.specs.Fmt.{digit_glyph, digits_onto, digits}
 use Rattle.std.specs.List.{All, flat_map, join_with_byte}
@@ -30,7 +30,10 @@ use Rattle.farm_base.specs.declared.want.Want.{Want}
 use Rattle.words.specs.Words.{access_text, want_text, digits_text, slot_with, why_text}
 use Rattle.words.proofs.PlainLemmas.{IsVisible, IsWord}
 use Rattle.farmwire.specs.Lines.{version_text, confirmed_text, granted_text, kind_text, grant_words, message_text}
-use Rattle.farmwire.specs.Sealed.{IsSealed}
+use Rattle.farmwire.specs.Sealed.{IsSealed, IsUnder}
+use Rattle.names.specs.declared.number.NodeId.{NodeId}
+use Rattle.protocol.specs.Hostile.{key_of}
+use Rattle.seals.specs.Keyrings.{Keys}
 use Rattle.farmwire.specs.Words.{spaced, verb_text}
 use Rattle.farmwire.proofs.SpelledLemmas.{saying, saying_words}
 
@@ -56,18 +59,21 @@ unfolding digits
 decimal_ends n = onto_ends 64 n [] (Lacks-nil 10)
 
 -- a byte of a table, or 0 behind it
-table_ends : (t : List ℕ) (i : ℕ) → NoEnd t → slice_index t i ≢ 10
-table_ends [] i h e = (let bad : 0 ≡ 10 = e in omega arith)
-table_ends (b ∷ t) zero h e = h 0 (omega arith) e
-table_ends (b ∷ t) (suc i) h e = table_ends t i (λ j inside. h (suc j) (omega arith)) e
+table_lacks : (c : ℕ) → 0 ≢ c → (t : List ℕ) (i : ℕ) → Lacks c t → slice_index t i ≢ c
+table_lacks c zeros [] i h e = zeros e
+table_lacks c zeros (b ∷ t) zero h e = h 0 (omega arith) e
+table_lacks c zeros (b ∷ t) (suc i) h e = table_lacks c zeros t i (λ j inside. h (suc j) (omega arith)) e
+
+-- a byte that is no digit isn't in the digits of any bytes
+pub hex_lacks : (c : ℕ) → 0 ≢ c → Lacks c lower_digits → (bytes : List ℕ) → Lacks c (encode_lower bytes)
+unfolding encode_with
+hex_lacks c zeros table [] = Lacks-nil c
+hex_lacks c zeros table (b ∷ bytes) =
+    Lacks-cons c (slice_index lower_digits (b / 16)) (slice_index lower_digits (b % 16) ∷ encode_lower bytes) (table_lacks c zeros lower_digits (b / 16) table)
+    (Lacks-cons c (slice_index lower_digits (b % 16)) (encode_lower bytes) (table_lacks c zeros lower_digits (b % 16) table) (hex_lacks c zeros table bytes))
 
 pub hex_ends : (bytes : List ℕ) → NoEnd (encode_lower bytes)
-unfolding encode_with
-hex_ends [] = Lacks-nil 10
-hex_ends (b ∷ bytes) =
-    let table : NoEnd lower_digits = Lacks-from_test 10 lower_digits refl in
-    Lacks-cons 10 (slice_index lower_digits (b / 16)) (slice_index lower_digits (b % 16) ∷ encode_lower bytes) (table_ends lower_digits (b / 16) table)
-    (Lacks-cons 10 (slice_index lower_digits (b % 16)) (encode_lower bytes) (table_ends lower_digits (b % 16) table) (hex_ends bytes))
+hex_ends bytes = hex_lacks 10 (λ e. omega arith) (Lacks-from_test 10 lower_digits refl) bytes
 
 -- ---- folders and slots
 
@@ -195,9 +201,14 @@ joined_ends (w ∷ v ∷ ws) h =
     Lacks-append 10 w (32 ∷ join_with_byte 32 (v ∷ ws)) (visible_ends w (All-head IsWord w (v ∷ ws) h))
     (Lacks-cons 10 32 (join_with_byte 32 (v ∷ ws)) (λ e. omega arith) (joined_ends (v ∷ ws) (All-tail IsWord w (v ∷ ws) h)))
 
-pub sealed_ends : (key line : List ℕ) (m : Message) → IsSealed key line m → NoEnd line
-sealed_ends key line m h =
+under_ends : (keys : Keys) (owner : Option NodeId) (text line : List ℕ) → NoEnd text → IsUnder keys owner text line → NoEnd line
+under_ends keys (Some node) text line h is =
+    let mac = encode_lower (hmac_sha256 is.key text) in
+    subst NoEnd (sym is.sealed) (Lacks-append 10 text (32 ∷ mac) h (Lacks-cons 10 32 mac (λ e. omega arith) (hex_ends (hmac_sha256 is.key text))))
+under_ends keys None text line h is = subst NoEnd (sym is) (Lacks-append 10 text (codes " -") h (Lacks-from_test 10 (codes " -") refl))
+
+pub sealed_ends : (keys : Keys) (line : List ℕ) (m : Message) → IsSealed keys line m → NoEnd line
+sealed_ends keys line m h =
     let s = saying m h.lawful in
     let text : NoEnd (message_text m) = subst NoEnd (sym (ap (join_with_byte 32) s.words_are)) (joined_ends (verb_text s.verb ∷ s.behind) (saying_words s)) in
-    let mac = encode_lower (hmac_sha256 key (message_text m)) in
-    subst NoEnd (sym h.text) (Lacks-append 10 (message_text m) (32 ∷ mac) text (Lacks-cons 10 32 mac (λ e. omega arith) (hex_ends (hmac_sha256 key (message_text m)))))
+    under_ends keys (key_of m) (message_text m) line text h.text

@@ -5,3 +5,4 @@ pub mod UniqueLemmas
 pub mod WantLemmas
 pub mod WriteLemmas
 pub mod EndLemmas
+pub mod SealedLemmas

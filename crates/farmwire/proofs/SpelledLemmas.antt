@@ -28,7 +28,7 @@ use Rattle.farmwire.specs.Lines.{life_text, ask_text, bytes_text, tenure_text, n
 use Rattle.farmwire.specs.Sealed.{IsSpelled}
 use Rattle.farmwire.specs.Words.{verb_text, said, told, releases, fences, recalls, Says, SpelledBy, OfLease}
 use Rattle.words.proofs.PlainLemmas.{IsWord, IsWord-from_test, decimal_word, digest_word, folder_word, want_words, words-joined, joined_utf8, last_word, node_words}
-use Rattle.farmwire.proofs.Spelling.{node_fits}
+use Rattle.farmwire.proofs.Spelling.{node_fits, life_counted}
 use Rattle.farmwire.proofs.PlainLemmas.{bytes_word, news_word, confirmed_word, granted_word, item_words}
 
 -- ---- words of a text
@@ -64,7 +64,7 @@ why_word TicketsSpent = IsWord-from_test (why_text TicketsSpent) refl
 
 -- a node, its life, and words
 speaker_words : (n : NodeId) (l : Life) (ws : List (List ℕ)) → IsNode n → IsLife l → All IsWord ws → All IsWord (node_text n ∷ life_text l ∷ ws)
-speaker_words n l ws hn hl hs = node_words n (life_text l ∷ ws) (node_fits n hn) (counted_words l.0 ws hl hs)
+speaker_words n l ws hn hl hs = node_words n (life_text l ∷ ws) (node_fits n hn) (counted_words l.0 ws (life_counted l hl) hs)
 
 -- the same, and an ask or a ticket
 numbered_words : (n : NodeId) (l : Life) (k : ℕ) (ws : List (List ℕ)) → IsNode n → IsLife l → IsCounted k → All IsWord ws

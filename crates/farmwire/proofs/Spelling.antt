@@ -49,8 +49,12 @@ node_fits n h = omega arith
 pub counted_same : (m n : ℕ) → IsCounted m → IsCounted n → decimal m ≡ decimal n → m ≡ n
 counted_same m n hm hn e = decimal_injective m n hm.1 hn.1 e
 
+-- a life is counted
+pub life_counted : (l : Life) → IsLife l → IsCounted l.0
+life_counted l h = (h.0, omega (arith, h.1))
+
 pub life_same : (a b : Life) → IsLife a → IsLife b → life_text a ≡ life_text b → a ≡ b
-life_same a b ha hb e = let same = counted_same a.0 b.0 ha hb e in λ i. record { 0 = same i }
+life_same a b ha hb e = let same = counted_same a.0 b.0 (life_counted a ha) (life_counted b hb) e in λ i. record { 0 = same i }
 
 pub ask_same : (a b : Ask) → IsAsk a → IsAsk b → ask_text a ≡ ask_text b → a ≡ b
 ask_same a b ha hb e = let same = counted_same a.0 b.0 ha hb e in λ i. record { 0 = same i }

@@ -13,13 +13,15 @@ use Rattle.names.specs.declared.number.Ticket.{Ticket}
 use Rattle.farm_base.specs.declared.want.Want.{Want}
 use Rattle.names.specs.declared.folder.FolderName.{FolderName}
 use Rattle.names.proofs.NameLaws.{folder_text-injective}
-use Rattle.seals.proofs.MacLemmas.{same_text}
 use Rattle.farmwire.specs.declared.verb.Verb.{Verb}
 use Rattle.farmwire.specs.declared.verb.Verb.TheVariants.{Hello, Acquire, Tenure, Commit, Release, Granted, Committed, Fenced, Denied, Recall, Fetch, Blob}
 use Rattle.words.specs.Words.{IsWant, want_text}
 use Rattle.farmwire.specs.Lawful.{IsLawful, IsNews, IsConfirmed, IsGranted}
 use Rattle.farmwire.specs.Lines.{message_text, news_text, confirmed_text, granted_text}
 use Rattle.farmwire.specs.Sealed.{IsSealed, IsSpelled}
+use Rattle.protocol.specs.Hostile.{key_of}
+use Rattle.seals.specs.Keyrings.{Keys}
+use Rattle.farmwire.proofs.SealedLemmas.{under_same}
 use Rattle.farmwire.specs.Words.{verb_text, said, told, releases, fences, recalls, SpellAll, SpellWants, OfLease, Says}
 use Rattle.words.proofs.ListLemmas.{map-injective, read_back-injective}
 use Rattle.words.proofs.Spelling.{node_same, ticket_same, digest_same, want_same}
@@ -164,6 +166,7 @@ spelled_same text a b sa sb =
 pub text_same : (a b : Message) → IsLawful a → IsLawful b → message_text a ≡ message_text b → a ≡ b
 text_same a b ha hb e = spelled_same (message_text a) a b (record { lawful = ha; text = refl }) (record { lawful = hb; text = e })
 
--- a line is that of one message
-pub sealed_same : (key line : List ℕ) (a b : Message) → IsSealed key line a → IsSealed key line b → a ≡ b
-sealed_same key line a b ha hb = text_same a b ha.lawful hb.lawful (same_text key line (message_text a) (message_text b) ha.text hb.text)
+-- a line is that of one message, whatever the keys
+pub sealed_same : (keys others : Keys) (line : List ℕ) (a b : Message) → IsSealed keys line a → IsSealed others line b → a ≡ b
+sealed_same keys others line a b ha hb =
+    text_same a b ha.lawful hb.lawful (under_same keys others (key_of a) (key_of b) (message_text a) (message_text b) line ha.text hb.text)

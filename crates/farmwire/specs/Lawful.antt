@@ -1,6 +1,6 @@
 -- The messages that have a line: their numbers are in their ranges, so what a coordinator reads can be handled by it
 -- (`Coordinator::handle` asks for the ranges of `IsSaid`).
-use Rattle.std.specs.Prelude.{◌≡◌, ℕ, ◌≤◌, ◌<◌, ◌^◌, true, false, List, [], ◌∷◌}
+use Rattle.std.specs.Prelude.{◌≡◌, ℕ, ◌≤◌, ◌<◌, ◌^◌, ◌-◌, true, false, List, [], ◌∷◌}
 use Rattle.std.specs.List.{All}
 use Rattle.names.specs.declared.folder.FolderName.{FolderName}
 use Rattle.names.specs.declared.folder.Mode.TheVariants.{Shared}
@@ -37,8 +37,9 @@ IsNode n = (1 ≤ n.0) × (n.0 ≤ NODES)
 abbrev pub IsCounted : ℕ → Type 0
 IsCounted n = (1 ≤ n) × (n < 2 ^ 64)
 
+-- no line says the greatest life: a node's last word is for the operator to say
 abbrev pub IsLife : Life → Type 0
-IsLife l = IsCounted l.0
+IsLife l = (1 ≤ l.0) × (l.0 < 2 ^ 64 - 1)
 
 abbrev pub IsAsk : Ask → Type 0
 IsAsk a = IsCounted a.0

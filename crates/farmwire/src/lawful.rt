@@ -1,11 +1,11 @@
 //! Which messages have a line.
 ghost use Rattle.std.specs.Prelude.{◌↔◌, IsTrue};
-ghost use Rattle.farmwire.specs.Lawful.{IsNode, IsCounted, IsTenure, IsRequest, IsSaid, IsGrant, IsTold, IsFetch, IsLawful};
+ghost use Rattle.farmwire.specs.Lawful.{IsNode, IsCounted, IsLife, IsTenure, IsRequest, IsSaid, IsGrant, IsTold, IsFetch, IsLawful};
 
 use super::item::are_lawful;
 use farm_base::laws::is_name;
 use farm_base::{
-    Fetch, FromCoord, Grant, Message, Mode, NODES, NodeId, Request, ToCoord, ToNode, Want,
+    Fetch, FromCoord, Grant, Life, Message, Mode, NODES, NodeId, Request, ToCoord, ToNode, Want,
 };
 
 fn is_node(node: NodeId) -> bool
@@ -18,6 +18,12 @@ fn is_counted(value: u64) -> bool
     ensures { IsTrue result ↔ IsCounted value }
 {
     1 <= value
+}
+
+fn is_life(life: Life) -> bool
+    ensures { IsTrue result ↔ IsLife life }
+{
+    1 <= life.0 && life.0 < u64::MAX
 }
 
 /// Whether these are the wants of a tenure.
@@ -51,7 +57,7 @@ fn is_request(request: &Request) -> bool
 fn is_said(message: &ToCoord) -> bool
     ensures { IsTrue result ↔ IsSaid message.now }
 {
-    is_node(message.node) && is_counted(message.life.0) && is_request(&message.request)
+    is_node(message.node) && is_life(message.life) && is_request(&message.request)
 }
 
 fn is_grant(grant: &Grant) -> bool
@@ -59,7 +65,7 @@ fn is_grant(grant: &Grant) -> bool
 {
     are_lawful(grant.slots.as_slice());
     is_node(grant.node)
-        && is_counted(grant.life.0)
+        && is_life(grant.life)
         && is_counted(grant.ask.0)
         && is_counted(grant.ticket.0)
 }
@@ -76,19 +82,19 @@ fn is_told(message: &FromCoord) -> bool
             versions,
         } => {
             are_lawful(versions.as_slice());
-            is_node(*node) && is_counted(life.0) && is_counted(ticket.0)
+            is_node(*node) && is_life(*life) && is_counted(ticket.0)
         }
         FromCoord::Fenced { node, life, ticket } => {
-            is_node(*node) && is_counted(life.0) && is_counted(ticket.0)
+            is_node(*node) && is_life(*life) && is_counted(ticket.0)
         }
         FromCoord::Denied {
             node,
             life,
             ask,
             ..
-        } => is_node(*node) && is_counted(life.0) && is_counted(ask.0),
+        } => is_node(*node) && is_life(*life) && is_counted(ask.0),
         FromCoord::Recall { node, life, ticket } => {
-            is_node(*node) && is_counted(life.0) && is_counted(ticket.0)
+            is_node(*node) && is_life(*life) && is_counted(ticket.0)
         }
     }
 }

@@ -43,13 +43,18 @@ fn counted(word: &str) -> Option<u64>
     if 1 <= value { Some(value) } else { None }
 }
 
-/// The life of a word.
+/// The life of a word. The greatest is none.
 pub fn life_of(word: &str) -> Option<Life>
     ensures found { IfSome result (λ life. word.now ≡ life_text life) }
     ensures fits { IfSome result IsLife }
     ensures only { IfNone result ((life : Life) → IsLife life → word.now ≢ life_text life) }
 {
-    Some(Life(counted(word)?))
+    let value = counted(word)?;
+    if value < u64::MAX {
+        Some(Life(value))
+    } else {
+        None
+    }
 }
 
 /// The ask of a word.

@@ -3,7 +3,7 @@
 use Rattle.std.specs.Prelude.{◌≡◌, ◌≢◌, ◌⊎◌, ℕ, List, [], ◌∷◌, ◌++◌, length, take}
 use Rattle.protocol.specs.Lists.{In}
 use Rattle.filekeeper.specs.Calls.{Called}
-use Rattle.filekeeper.specs.Disks.{Files, cut_to, MaySee, MayLeave}
+use Rattle.filekeeper.specs.Disks.{Files, with_whole, cut_to, MaySee, MayLeave}
 use Rattle.filekeeper.specs.Framing.{name_of, log_bytes, HasNone, AreTextsOf}
 use Rattle.saverecord.specs.Texts.{Texts, with_texts}
 use Rattle.filekeeper.specs.declared.device_call.DeviceCall.TheVariants.{ReadRecord, ReadLog}
@@ -59,6 +59,10 @@ Clashes bytes texts = (bytes ≢ texts.whole) × (name_of bytes ≡ name_of text
 -- opening gives these texts or those
 abbrev pub HoldsOneOf : Texts → Texts → Files → Type 0
 HoldsOneOf old new f = Holds old f ⊎ Holds new f
+
+-- files that might be left before; or such files with this record, and with their log or with none
+abbrev pub IsPutOver : List ℕ → List Called → Files → Type 0
+IsPutOver bytes old f = (d : Files) × MayLeave old d × ((f ≡ d) ⊎ ((f ≡ with_whole bytes d) ⊎ (f ≡ record { whole = bytes; log = [] })))
 
 -- ---- while the files are read again
 

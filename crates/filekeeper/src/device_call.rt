@@ -1,7 +1,7 @@
 //! The calls of a device, which only clauses read.
 ghost use Rattle.std.specs.Prelude.{◌≡◌, List, []};
 ghost use Rattle.std.specs.Borrow.{ftrue};
-ghost use Rattle.filekeeper.specs.Calls.{Called, noted};
+ghost use Rattle.filekeeper.specs.Calls.{Called};
 
 use std::marker::{Model, PhantomData};
 
@@ -19,7 +19,7 @@ pub enum DeviceCall {
     SyncLog(bool),
 }
 
-/// The calls so far. It takes no bytes.
+/// The calls so far. It takes no bytes. Only the module of the host's device can note one.
 #[derive(Drop)]
 pub struct History {
     marker: PhantomData<u8>,
@@ -39,9 +39,4 @@ impl History {
             marker: PhantomData,
         }
     }
-
-    /// Notes a call with these bytes.
-    pub(crate) fn note(&mut self, _calls: &[DeviceCall], _bytes: &[u8])
-        ensures { self.new.calls ≡ noted _calls.now _bytes.now self.old.calls }
-    {}
 }

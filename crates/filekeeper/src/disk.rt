@@ -4,11 +4,11 @@ ghost use Rattle.std.specs.Result.{is_ok};
 ghost use Rattle.filekeeper.specs.declared.device_call.DeviceCall.TheVariants.{ReadRecord, ReadLog, WriteDraft, RenameDraft, SyncNames, Append, Cut, SyncLog};
 
 use super::device::Device;
-use super::device_call::{DeviceCall, History};
+use super::device_call::History;
 use std::alloc::Global;
 use std::io;
 
-/// A device whose calls are counted by clauses: what a crash may leave is said of them.
+/// A device, and the history of its calls: what a crash may leave is said of them.
 #[derive(Drop)]
 pub struct Disk<D: Device> {
     device: D,
@@ -33,10 +33,7 @@ impl<D: Device> Disk<D> {
         ensures done { IfOk result (λ bytes. calls_of self.new ≡ (ReadRecord, bytes.items) ∷ calls_of self.old) }
         ensures failed { OnErr result (calls_of self.new ≡ calls_of self.old) }
     {
-        let bytes = self.device.read_record(alloc)?;
-        self.history
-            .note(&[DeviceCall::ReadRecord], bytes.as_slice());
-        Ok(bytes)
+        self.device.read_record(alloc, &mut self.history)
     }
 
     /// The bytes of the log's file.
@@ -44,69 +41,49 @@ impl<D: Device> Disk<D> {
         ensures done { IfOk result (λ bytes. calls_of self.new ≡ (ReadLog, bytes.items) ∷ calls_of self.old) }
         ensures failed { OnErr result (calls_of self.new ≡ calls_of self.old) }
     {
-        let bytes = self.device.read_log(alloc)?;
-        self.history.note(&[DeviceCall::ReadLog], bytes.as_slice());
-        Ok(bytes)
+        self.device.read_log(alloc, &mut self.history)
     }
 
     /// Writes a draft, and waits until the device has it.
     pub fn write_draft(&mut self, bytes: &[u8]) -> io::Result<()>
         ensures { calls_of self.new ≡ (WriteDraft (is_ok result), bytes.now) ∷ calls_of self.old }
     {
-        let result = self.device.write_draft(bytes);
-        self.history
-            .note(&[DeviceCall::WriteDraft(result.is_ok())], bytes);
-        result
+        self.device.write_draft(bytes, &mut self.history)
     }
 
     /// The draft takes the record's name.
     pub fn rename_draft(&mut self) -> io::Result<()>
         ensures { calls_of self.new ≡ (RenameDraft (is_ok result), []) ∷ calls_of self.old }
     {
-        let result = self.device.rename_draft();
-        self.history
-            .note(&[DeviceCall::RenameDraft(result.is_ok())], &[]);
-        result
+        self.device.rename_draft(&mut self.history)
     }
 
     /// Waits until the device has the names of the files.
     pub fn sync_names(&mut self) -> io::Result<()>
         ensures { calls_of self.new ≡ (SyncNames (is_ok result), []) ∷ calls_of self.old }
     {
-        let result = self.device.sync_names();
-        self.history
-            .note(&[DeviceCall::SyncNames(result.is_ok())], &[]);
-        result
+        self.device.sync_names(&mut self.history)
     }
 
     /// Adds bytes to the log.
     pub fn append(&mut self, bytes: &[u8]) -> io::Result<()>
         ensures { calls_of self.new ≡ (Append (is_ok result), bytes.now) ∷ calls_of self.old }
     {
-        let result = self.device.append(bytes);
-        self.history
-            .note(&[DeviceCall::Append(result.is_ok())], bytes);
-        result
+        self.device.append(bytes, &mut self.history)
     }
 
     /// Cuts the log to its first bytes.
     pub fn cut(&mut self, len: usize) -> io::Result<()>
         ensures { calls_of self.new ≡ (Cut len (is_ok result), []) ∷ calls_of self.old }
     {
-        let result = self.device.cut(len);
-        self.history
-            .note(&[DeviceCall::Cut(len, result.is_ok())], &[]);
-        result
+        self.device.cut(len, &mut self.history)
     }
 
     /// Waits until the device has the log.
     pub fn sync_log(&mut self) -> io::Result<()>
         ensures { calls_of self.new ≡ (SyncLog (is_ok result), []) ∷ calls_of self.old }
     {
-        let result = self.device.sync_log();
-        self.history
-            .note(&[DeviceCall::SyncLog(result.is_ok())], &[]);
-        result
+        self.device.sync_log(&mut self.history)
     }
 
     /// Waits until the device has the names, cuts the log to its first bytes, and waits until the device has it. Where that is done a

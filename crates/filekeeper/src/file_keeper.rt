@@ -6,10 +6,9 @@ ghost use Rattle.filekeeper.specs.Settled.{WereRead};
 ghost use Rattle.saverecord.specs.Keepers.{HasFailed};
 ghost use Rattle.saverecord.specs.Texts.{whole_alone, with_text};
 
-use super::device::Device;
 use super::disk::Disk;
 use super::host_device::HostDevice;
-use super::record_files::RecordFiles;
+use super::record_files::{RecordFiles, put_record};
 use saverecord::{Keeper, KeeperRefusal, Log, SaveFault};
 use std::alloc::{AllocError, Global};
 use std::io::{self, ErrorKind};
@@ -72,17 +71,11 @@ impl<'a, R: Files> FileKeeper<'a, R> {
         Ok(FileKeeper::of(files))
     }
 
-    /// Puts a record in the file of this path, in the place of what stood there and in its log, of which it reads nothing. After an
-    /// error the old record stands there with its log, or this one does: entries that may be left in the log are none of its, unless it
-    /// has the old record's name.
+    /// Does what `put_record` says with the files of this path. After an error the old record stands there with its log, or this one
+    /// does: entries that may be left in the log are none of its, unless it has the old record's name.
     pub fn put(files: &'a R, alloc: Global, path: &str, bytes: &[u8]) -> io::Result<()> {
-        let mut device = HostDevice::new(files, alloc, path)?;
-        device.write_draft(bytes)?;
-        if let Err(error) = device.rename_draft() {
-            let _removed = device.remove_draft();
-            return Err(error);
-        }
-        Disk::new(device).tidy(0)
+        let device = HostDevice::new(files, alloc, path)?;
+        put_record(&mut Disk::new(device), bytes)
     }
 
     /// Tries whether a record can be put in the file of this path, and changes nothing that stands there.

@@ -18,4 +18,4 @@ pub use file_keeper::FileKeeper;
 pub use framing::{LogFault, texts_in};
 pub use gathered::Gathered;
 pub use host_device::HostDevice;
-pub use record_files::{RecordFiles, take_up};
+pub use record_files::{RecordFiles, put_record, take_up};

@@ -3,7 +3,7 @@ ghost use Rattle.std.specs.Prelude.{◌≡◌, ◌≢◌, ◌<◌, ◌≤◌, �
 ghost use Rattle.filekeeper.specs.Disks.{calls_of, Files, IsTidied, Leaves, MayLeave, MaySee};
 ghost use Rattle.filekeeper.specs.Framing.{framed, log_bytes, AreTextsOf, IsTold};
 ghost use Rattle.filekeeper.specs.Keepers.{IsLeft};
-ghost use Rattle.filekeeper.specs.Settled.{AreStanding, Clashes, HoldsAny, HoldsOneOf, HoldsSome, HasRead, IsAddedTo, IsCut, IsSettled, IsTakenUp, StandsIn, WereRead};
+ghost use Rattle.filekeeper.specs.Settled.{AreStanding, Clashes, HoldsAny, HoldsOneOf, HoldsSome, HasRead, IsAddedTo, IsCut, IsPutOver, IsSettled, IsTakenUp, StandsIn, WereRead};
 ghost use Rattle.saverecord.specs.Texts.{Texts, whole_alone};
 ghost use Rattle.filekeeper.specs.declared.device_call.DeviceCall.TheVariants.{WriteDraft, RenameDraft};
 
@@ -74,6 +74,18 @@ pub fn take_up<D: Device>(alloc: Global, disk: &mut Disk<D>) -> io::Result<(Log,
     let (log, len) = texts_of(alloc, whole, tail.as_slice())?;
     disk.tidy(len)?;
     Ok((log, len))
+}
+
+/// Puts a record of these bytes in the place of what the files hold, of which it reads nothing, and empties the log.
+pub fn put_record<D: Device>(disk: &mut Disk<D>, bytes: &[u8]) -> io::Result<()>
+    ensures settled { OnOk result (IsSettled (calls_of disk.new) (whole_alone bytes.now)) }
+
+    // A crash at any moment leaves what it might have left before, or this record, with such a log or with none.
+    ensures any_moment { Leaves (IsPutOver bytes.now (calls_of disk.old)) (calls_of disk.old) (calls_of disk.new) }
+{
+    disk.write_draft(bytes)?;
+    disk.rename_draft()?;
+    disk.tidy(0)
 }
 
 /// What stands in a log behind these entries of the record, if they stand there.

@@ -43,7 +43,7 @@ abbrev pub rows_from : Option (List ℕ) → (List ℕ → List ℕ × Three) �
 rows_from None row others = []
 rows_from (Some path) row others = row path ∷ others path
 
--- at most so many rows: each time the least path that is left
+-- the first rows, up to a number of them: each time the least path that is left
 unfoldable pub rows_in : ℕ → Listing → Listing → Listing → Side_by_side
 rows_in zero base mine theirs = []
 rows_in (suc limit) base mine theirs = rows_from (least_path base mine theirs) (λ path. row_at path base mine theirs)

@@ -1,13 +1,15 @@
 -- What a call leaves.
-use Rattle.std.proofs.Common.{◌≡◌, Bool, true, false, not, inl, inr, Some, Result, Ok, Err, refl, subst}
+use Rattle.std.proofs.Common.{◌≡◌, ℕ, Bool, true, false, not, List, inl, inr, Option, Some, None, Result, Ok, Err, refl, subst, arith}
 use Rattle.std.specs.Result.{is_ok}
 use Rattle.nodecore.specs.declared.message.NodeDone.{NodeDone}
 use Rattle.nodecore.specs.Shown.{Answers}
 use Rattle.events.specs.declared.answer.NodeRefusal.{NodeRefusal}
 use Rattle.events.specs.declared.answer.NodeRefusal.TheVariants as refusal
+use Rattle.protocol.specs.Names.{Digest}
 use Rattle.protocol.specs.Nodes.{NodeAnswer}
 use Rattle.protocol.specs.World.{Node}
 use Rattle.nodelines.specs.declared.order.Call.{Call}
+use Rattle.nodelines.specs.declared.order.Call.TheVariants as call
 use Rattle.nodefilter.specs.Carried.{node_answer, brought_by, forgotten_by}
 use Rattle.nodefilter.specs.States.{Seen, AreKept, IsSound}
 use Rattle.nodestore.specs.Stores.{Kept, StayKept, AllKept}
@@ -43,6 +45,22 @@ stays_kept kept c old new done h stay each sound d content is apart =
 same_kept : {S : Type 0} (kept : Kept S) (old new : Seen S) → new.node ≡ old.node → new.store ≡ old.store → AreKept kept old → AreKept kept new
 same_kept kept old new node store sound d content is apart =
     rw store (sound d content (subst (λ (x : Node). x.store d ≡ Some content) node is) apart)
+
+-- a call that forgets brings nothing
+pub each_kept : {S : Type 0} (kept : Kept S) (c : Call) (store : Digest → Option (List ℕ)) (s : S) → (forgotten_by c ≡ None → AllKept kept store (brought_by c) s) → AllKept kept store (brought_by c) s
+each_kept kept (call.Receive message) store s each = each refl
+each_kept kept (call.Ask wants) store s each = each refl
+each_kept kept (call.Tenure folder) store s each = each refl
+each_kept kept (call.Begin ticket) store s each = each refl
+each_kept kept (call.Finish ticket lefts) store s each = each refl
+each_kept kept (call.Abort ticket) store s each = each refl
+each_kept kept call.Resend store s each = each refl
+each_kept kept (call.Bring content) store s each = each refl
+each_kept kept (call.Forget digest) store s each = λ d content is_in is. (let none = is_in.1 in absurd (omega (arith, none)))
+
+pub not_false : (b : Bool) → not b ≡ false → b ≡ true
+not_false true is = refl
+not_false false is = absurd (cc is)
 
 pub not_true : (b : Bool) → not b ≡ true → b ≡ false
 not_true true is = absurd (cc is)

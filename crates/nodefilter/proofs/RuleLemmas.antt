@@ -1,5 +1,5 @@
 -- What a node's filter does with lines, as a run of processes.
-use Rattle.std.proofs.Common.{◌≡◌, ◌≢◌, ℕ, ◌+◌, ◌<◌, ◌≤◌, nat_lt, Bool, true, false, if◌then◌else◌, List, [], ◌∷◌, ◌++◌, Result, Ok, Err, inl, inr, refl, sym, ap, ◌∙◌, subst, append_assoc, ◌==◌, arith}
+use Rattle.std.proofs.Common.{◌≡◌, ◌≢◌, ℕ, ◌+◌, ◌<◌, ◌≤◌, nat_lt, Bool, true, false, if◌then◌else◌, List, [], ◌∷◌, ◌++◌, Option, None, Some, Result, Ok, Err, inl, inr, refl, sym, ap, ◌∙◌, subst, append_assoc, ◌==◌, arith}
 use mathlib.Core.Path.{fun_ext}
 use Rattle.std.specs.String.{string_bytes}
 use Rattle.std.proofs.lemmas.Bool.Decides.{nat_tests}
@@ -23,13 +23,14 @@ use Rattle.protocol.specs.Farm.{farm_limits}
 use Rattle.protocol.specs.Lawful.{IsNumber}
 use Rattle.protocol.specs.Lists.{In, put}
 use Rattle.protocol.specs.Machine.{HasPart, hello}
+use Rattle.protocol.specs.Names.{Digest}
 use Rattle.protocol.specs.Machine.HasPart.{Ends_part, Keeps, Leaves}
 use Rattle.protocol.specs.Nodes.{Place, NodeWork, guard, nothing, received, unless_spent}
 use Rattle.protocol.specs.Processes as process
-use Rattle.protocol.specs.Processes.{Processes, Runs, MayReach, node_decided, NodeDoes}
+use Rattle.protocol.specs.Processes.{Processes, MayReach, node_decided, NodeDoes}
 use Rattle.protocol.specs.Processes.NodeDoes.{Acts, Begins_life, Loses}
-use Rattle.protocol.specs.Processes.Happens.{Node_does}
-use Rattle.protocol.specs.Processes.Runs.{Rests, Goes_on}
+use Rattle.protocol.specs.HostileProcesses.RaidHappens.{Node_does}
+use Rattle.protocol.specs.HostileProcesses.RaidRuns.{Rests, Goes_on}
 use Rattle.protocol.specs.World.{Node, has_life}
 use Rattle.services.specs.declared.lost.Lost.{Lost}
 use Rattle.services.specs.Buffers.{IsKept}
@@ -49,23 +50,24 @@ use Rattle.nodelines.proofs.OwnLemmas.{no_message}
 use Rattle.words.specs.Words.{words}
 use Rattle.nodefilter.specs.Asked.{AsksFor, Orders}
 use Rattle.nodefilter.specs.Asked.Orders.{Heard, Own}
-use Rattle.nodefilter.specs.Carried.{node_answer}
+use Rattle.nodefilter.specs.Carried.{node_answer, forgotten_by}
 use Rattle.nodefilter.specs.Filters.{IsCallOf, Makes, Follows, Filters}
 use Rattle.nodefilter.specs.Filters.Filters.{Is_down, Does, Drops}
-use Rattle.nodefilter.specs.Filters.Follows.{Calls, Misses, Hands, Has_not, Tells}
+use Rattle.nodefilter.specs.Filters.Follows.{Calls, Misses, Is_large, Hands, Has_not, Tells}
 use Rattle.nodefilter.specs.Filters.IsCallOf.{Itself}
 use Rattle.nodefilter.specs.Filters.Makes.{Made, Stopped}
-use Rattle.nodefilter.specs.Rules.{with_node, node_steps, sends_of, made_messages, followed_messages, line_messages, messages_of, ABatchIsARun, AKillIsARun, AStartIsARun}
+use Rattle.nodefilter.specs.Rules.{with_node, MayBecome, node_steps, sends_of, made_messages, followed_messages, line_messages, messages_of, left_of, made_node, followed_node, line_node, node_after, ABatchIsARun, AKillIsARun, AStartIsARun}
 use Rattle.nodefilter.specs.States.{Seen, seen}
-use Rattle.nodestore.specs.Stores.{Kept}
+use Rattle.nodestore.specs.Stores.{Kept, HadBytes}
 use Rattle.nodefilter.proofs.SaysLemmas.{store_fault_says, followed_says, greeting_says}
 use Rattle.nodefilter.proofs.StartLemmas.{kept_stands}
+use Rattle.farmwire.specs.Sealed.{Keys, key_in}
 
 -- ---- runs of a node
 
 -- a node went on so far, and wrote these messages; all else of the processes stays
 record Went_on (p : Processes) (me : NodeId) (node : Node) (messages : List Message) (later : Processes) : Type 0 where
-  runs : Runs content_digest farm_limits NODES p later
+  runs : MayBecome me p later
   node_is : later.nodes me.0 ≡ node
   others : (n : ℕ) → n ≢ me.0 → later.nodes n ≡ p.nodes n
   coordinator : later.coordinator ≡ p.coordinator
@@ -73,9 +75,9 @@ record Went_on (p : Processes) (me : NodeId) (node : Node) (messages : List Mess
 
 -- so these are the processes
 arrives : (p later : Processes) (me : NodeId) (node : Node) (messages : List Message) → Went_on p me node messages later
-    → Runs content_digest farm_limits NODES p (with_node p me node messages)
+    → MayBecome me p (with_node p me node messages)
 arrives p later me node messages h =
-    subst (λ (q : Processes). Runs content_digest farm_limits NODES p q) (λ i. record { coordinator = h.coordinator i; nodes = fun_ext nodes_are i; written = h.written i }) h.runs
+    subst (λ (q : Processes). MayBecome me p q) (λ i. record { coordinator = h.coordinator i; nodes = fun_ext nodes_are i; written = h.written i }) h.runs
   where
     nodes_are : (n : ℕ) → later.nodes n ≡ put me.0 node p.nodes n
     nodes_are n = elim (cases_Bool (n == me.0)) [
@@ -85,7 +87,7 @@ arrives p later me node messages h =
 
 stays : (p : Processes) (me : NodeId) (node : Node) → p.nodes me.0 ≡ node → Went_on p me node [] p
 stays p me node is = record {
-  runs = Rests p;
+  runs = λ took honest. Rests p;
   node_is = is;
   others = λ n differs. refl;
   coordinator = refl;
@@ -99,7 +101,7 @@ acts p q me x y messages more number h does =
     let r : Processes = record q { nodes = put me.0 y q.nodes; written = q.written ++ more } in (
       r,
       record {
-        runs = Goes_on p q r h.runs (Node_does me more y number (subst (λ z. NodeDoes content_digest farm_limits q.written me z more y) (sym h.node_is) does));
+        runs = λ took honest. Goes_on p q r (h.runs took honest) (Node_does me more y number honest (subst (λ z. NodeDoes content_digest farm_limits q.written me z more y) (sym h.node_is) does));
         node_is = ap (λ b. if b then y else q.nodes me.0) (eq-eqb me.0 me.0 refl);
         others = λ n differs. other n differs ∙ h.others n differs;
         coordinator = h.coordinator;
@@ -129,15 +131,15 @@ AreSaid (Err e) said = said ≡ []
 -- ---- lines from outside
 
 -- what they say to the node was written
-abbrev AreHeard : List ℕ → NodeId → List (List ℕ) → List Message → Type 0
-AreHeard key me lines written = (line : List ℕ) (message : ToNode) → In line lines → Orders key me line (order.Call (call.Receive message))
+abbrev AreHeard : Keys → NodeId → List (List ℕ) → List Message → Type 0
+AreHeard keys me lines written = (line : List ℕ) (message : ToNode) → In line lines → Orders keys me line (order.Call (call.Receive message))
     → In (to.ToNode message) written
 
-are_heard : (key : List ℕ) (me : NodeId) (lines : List (List ℕ)) (written : List Message) → AreOfTheFarm key lines written → AreHeard key me lines written
-are_heard key me lines written farm line m i (Heard sealed at is) =
+are_heard : (keys : Keys) (me : NodeId) (lines : List (List ℕ)) (written : List Message) → AreOfTheFarm keys lines written → AreHeard keys me lines written
+are_heard keys me lines written farm line m i (Heard sealed at is) =
     let same : m ≡ is.mine.message = cc is.mine.asked in
     subst (λ x. In x written) (is.mine.is ∙ ap to.ToNode (sym same)) (farm sealed is.message (subst (λ l. In l lines) at i) is.opened)
-are_heard key me lines written farm line m i (Own utf asked) = absurd (no_message (words line) m asked)
+are_heard keys me lines written farm line m i (Own utf asked) = absurd (no_message (words line) m asked)
 
 -- a line that is heard was written
 abbrev MayBeHeard : List Message → Call → Type 0
@@ -238,152 +240,192 @@ none_said true (Err e) = refl
 none_said false (Ok done) = part_none done.sends
 none_said false (Err e) = refl
 
--- a line was answered, and these are the messages so far
-record Goes {S : Type 0} (p : Processes) (messages : List Message) (old new : Seen S) : Type 0 where
-  later : Processes
-  went_on : Went_on p old.me new.node messages later
-  me_is : new.me ≡ old.me
-  at_is : new.at ≡ old.at
-  key_is : new.key ≡ old.key
+-- where the filter is down nothing of the call is said
+said_none : (lost down : Bool) (answer : Result NodeDone NodeRefusal) → down ≡ true → said_of lost (sends_of down answer) ≡ []
+said_none true down answer is = refl
+said_none false true answer is = refl
+said_none false false answer is = absurd (cc is)
 
 none_more : (lost : Bool) → said_of lost [] ≡ []
 none_more true = refl
 none_more false = refl
 
-quiet : {S : Type 0} (p q : Processes) (messages : List Message) (lost : Bool) (old new : Seen S) → new ≡ old → Went_on p old.me old.node messages q → Goes p (messages ++ said_of lost []) old new
-quiet p q messages lost old new same h = record {
+-- the node that a call leaves, which may be the one before it
+left_goes : (gone : Option Digest) (down : Bool) (p q : Processes) (me : NodeId) (x new : Node) (messages said : List Message) → (down ≡ true → said ≡ [])
+    → Went_on p me x messages q → (r : Processes) × Went_on p me new (messages ++ said) r → (r : Processes) × Went_on p me (left_of gone down x new) (messages ++ said) r
+left_goes (Some digest) true p q me x new messages said none h done = (q, silent p q me x messages said (none refl) h)
+left_goes (Some digest) false p q me x new messages said none h done = done
+left_goes None down p q me x new messages said none h done = done
+
+left_is : (gone : Option Digest) (down : Bool) (x new : Node) → down ≡ false → left_of gone down x new ≡ new
+left_is (Some digest) true x new up = absurd (cc up)
+left_is (Some digest) false x new up = refl
+left_is None down x new up = refl
+
+-- a line was answered, and these are the messages so far, and the node then
+record Goes {S : Type 0} (p : Processes) (messages : List Message) (node : Node) (old new : Seen S) : Type 0 where
+  later : Processes
+  went_on : Went_on p old.me node messages later
+  node_is : new.down ≡ false → node ≡ new.node
+  me_is : new.me ≡ old.me
+  at_is : new.at ≡ old.at
+  key_is : new.keys ≡ old.keys
+
+-- while the filter is up, its state is this node
+abbrev IsAt : {S : Type 0} → Node → Seen S → Type 0
+IsAt x f = f.down ≡ false → x ≡ f.node
+
+quiet : {S : Type 0} (p q : Processes) (messages : List Message) (lost : Bool) (x : Node) (old new : Seen S) → new ≡ old → IsAt x old → Went_on p old.me x messages q → Goes p (messages ++ said_of lost []) x old new
+quiet {S} p q messages lost x old new same at h = record {
   later = q;
-  went_on = silent p q old.me new.node messages (said_of lost []) (none_more lost) (moved p q old.me old.node new.node messages (ap (λ f. f.node) same) h);
+  went_on = silent p q old.me x messages (said_of lost []) (none_more lost) h;
+  node_is = λ up. at (sym (ap (λ (f : Seen S). f.down) same) ∙ up) ∙ sym (ap (λ (f : Seen S). f.node) same);
   me_is = ap (λ f. f.me) same;
   at_is = ap (λ f. f.at) same;
-  key_is = ap (λ f. f.key) same;
+  key_is = ap (λ f. f.keys) same;
 }
 
-made_goes : {S : Type 0} (kept : Kept S) (last_life : S → ℕ) (p q : Processes) (messages : List Message) (lost : Bool) (c : Call) (answer : List ℕ) (old new : Seen S) → IsNumber NODES old.me → old.at.node ≡ old.me
-    → MayBeHeard q.written c → (f : Makes kept last_life c old new answer) → Went_on p old.me old.node messages q → Goes p (messages ++ said_of lost (made_messages f)) old new
-made_goes kept last_life p q messages lost c answer old new number itself may (Made done carries (inl written)) h =
-    let result = call_done p q old.at old.me old.node new.node messages (said_of lost (sends_of new.down done)) c done number itself may carries.done h (are_said lost new.down done) in
+made_goes : {S : Type 0} (kept : Kept S) (last_life : S → ℕ) (p q : Processes) (messages : List Message) (lost : Bool) (c : Call) (answer : List ℕ) (x : Node) (old new : Seen S) → IsNumber NODES old.me → old.at.node ≡ old.me
+    → old.down ≡ false → MayBeHeard q.written c → (f : Makes kept last_life c old new answer) → IsAt x old → Went_on p old.me x messages q → Goes p (messages ++ said_of lost (made_messages f)) (made_node x f) old new
+made_goes kept last_life p q messages lost c answer x old new number itself up may (Made done carries (inl written)) at h =
+    let said : List Message = said_of lost (sends_of new.down done) in
+    let went = call_done p q old.at old.me old.node new.node messages said c done number itself may carries.done (moved p q old.me x old.node messages (sym (at up)) h) (are_said lost new.down done) in
+    let result = left_goes (forgotten_by c) new.down p q old.me x new.node messages said (said_none lost new.down done) h went in
     record {
       later = result.0;
       went_on = result.1;
+      node_is = left_is (forgotten_by c) new.down x new.node;
       me_is = ap (λ f. f.me) carries.same;
       at_is = ap (λ f. f.at) carries.same;
-      key_is = ap (λ f. f.key) carries.same;
+      key_is = ap (λ f. f.keys) carries.same;
     }
-made_goes kept last_life p q messages lost c answer old new number itself may (Made done carries (inr out)) h =
-    let result = call_done p q old.at old.me old.node new.node messages (said_of lost []) c done number itself may carries.done h (none_said lost done) in
+made_goes kept last_life p q messages lost c answer x old new number itself up may (Made done carries (inr out)) at h =
+    let went = call_done p q old.at old.me old.node new.node messages (said_of lost []) c done number itself may carries.done (moved p q old.me x old.node messages (sym (at up)) h) (none_said lost done) in
+    let result = left_goes (forgotten_by c) new.down p q old.me x new.node messages (said_of lost []) (λ down. none_more lost) h went in
     record {
       later = result.0;
       went_on = result.1;
+      node_is = left_is (forgotten_by c) new.down x new.node;
       me_is = ap (λ f. f.me) carries.same;
       at_is = ap (λ f. f.at) carries.same;
-      key_is = ap (λ f. f.key) carries.same;
+      key_is = ap (λ f. f.keys) carries.same;
     }
-made_goes kept last_life p q messages lost c answer old new number itself may (Stopped same out) h = quiet p q messages lost old new same h
+made_goes kept last_life p q messages lost c answer x old new number itself up may (Stopped same out) at h = quiet p q messages lost x old new same at h
 
 -- what is handed on is the line
-line_given : (limit : ℕ) (key line : List ℕ) (me : NodeId) (given : Result (List ℕ) Lost) (o : Order) → IsKept limit line given → AsksFor key me given o → Orders key me line o
-line_given limit key line me (Ok text) o kept asks = subst (λ t. Orders key me t o) kept.1 asks
-line_given limit key line me (Err lost) o kept asks = absurd asks
+line_given : (limit : ℕ) (keys : Keys) (line : List ℕ) (me : NodeId) (given : Result (List ℕ) Lost) (o : Order) → IsKept limit line given → AsksFor keys me given o → Orders keys me line o
+line_given limit keys line me (Ok text) o kept asks = subst (λ t. Orders keys me t o) kept.1 asks
+line_given limit keys line me (Err lost) o kept asks = absurd asks
 
-may_be_heard : (key line : List ℕ) (me : NodeId) (written : List Message) (o : Order) (c : Call) → ((message : ToNode) → Orders key me line (order.Call (call.Receive message)) → In (to.ToNode message) written)
-    → Orders key me line o → IsCallOf o c → MayBeHeard written c
-may_be_heard key line me written o (call.Receive m) heard asks (Itself x) = heard m asks
-may_be_heard key line me written o (call.Ask wants) heard asks is = tt
-may_be_heard key line me written o (call.Tenure folder) heard asks is = tt
-may_be_heard key line me written o (call.Begin ticket) heard asks is = tt
-may_be_heard key line me written o (call.Finish ticket lefts) heard asks is = tt
-may_be_heard key line me written o (call.Abort ticket) heard asks is = tt
-may_be_heard key line me written o call.Resend heard asks is = tt
-may_be_heard key line me written o (call.Bring content) heard asks is = tt
-may_be_heard key line me written o (call.Forget digest) heard asks is = tt
+may_be_heard : (Had : List ℕ → List ℕ → Type 0) (keys : Keys) (line : List ℕ) (me : NodeId) (written : List Message) (o : Order) (c : Call) → ((message : ToNode) → Orders keys me line (order.Call (call.Receive message)) → In (to.ToNode message) written)
+    → Orders keys me line o → IsCallOf Had o c → MayBeHeard written c
+may_be_heard Had keys line me written o (call.Receive m) heard asks (Itself x) = heard m asks
+may_be_heard Had keys line me written o (call.Ask wants) heard asks is = tt
+may_be_heard Had keys line me written o (call.Tenure folder) heard asks is = tt
+may_be_heard Had keys line me written o (call.Begin ticket) heard asks is = tt
+may_be_heard Had keys line me written o (call.Finish ticket lefts) heard asks is = tt
+may_be_heard Had keys line me written o (call.Abort ticket) heard asks is = tt
+may_be_heard Had keys line me written o call.Resend heard asks is = tt
+may_be_heard Had keys line me written o (call.Bring content) heard asks is = tt
+may_be_heard Had keys line me written o (call.Forget digest) heard asks is = tt
 
-followed_goes : {S : Type 0} (kept : Kept S) (last_life : S → ℕ) (limit : ℕ) (p q : Processes) (messages : List Message) (lost : Bool) (line answer : List ℕ) (given : Result (List ℕ) Lost) (o : Order) (old new : Seen S)
-    → IsNumber NODES old.me → old.at.node ≡ old.me → ((message : ToNode) → Orders old.key old.me line (order.Call (call.Receive message)) → In (to.ToNode message) q.written)
-    → IsKept limit line given → AsksFor old.key old.me given o → (f : Follows kept last_life o old new answer) → Went_on p old.me old.node messages q → Goes p (messages ++ said_of lost (followed_messages f)) old new
-followed_goes kept last_life limit p q messages lost line answer given o old new number itself heard is asks (Calls c call_is makes) h =
-    made_goes kept last_life p q messages lost c answer old new number itself (may_be_heard old.key line old.me q.written o c heard (line_given limit old.key line old.me given o is asks) call_is) makes h
-followed_goes kept last_life limit p q messages lost line answer given o old new number itself heard is asks (Misses file same text) h = quiet p q messages lost old new same h
-followed_goes kept last_life limit p q messages lost line answer given o old new number itself heard is asks (Hands digest file o_is stored same text) h = quiet p q messages lost old new same h
-followed_goes kept last_life limit p q messages lost line answer given o old new number itself heard is asks (Has_not digest file o_is none same text) h = quiet p q messages lost old new same h
-followed_goes kept last_life limit p q messages lost line answer given o old new number itself heard is asks (Tells ask o_is same text) h = quiet p q messages lost old new same h
+followed_goes : {S : Type 0} (kept : Kept S) (last_life : S → ℕ) (had : HadBytes S) (limit : ℕ) (p q : Processes) (messages : List Message) (lost : Bool) (line answer : List ℕ) (given : Result (List ℕ) Lost) (o : Order) (x : Node) (old new : Seen S)
+    → IsNumber NODES old.me → old.at.node ≡ old.me → old.down ≡ false → ((message : ToNode) → Orders old.keys old.me line (order.Call (call.Receive message)) → In (to.ToNode message) q.written)
+    → IsKept limit line given → AsksFor old.keys old.me given o → (f : Follows kept last_life had o old new answer) → IsAt x old → Went_on p old.me x messages q → Goes p (messages ++ said_of lost (followed_messages f)) (followed_node x f) old new
+followed_goes kept last_life had limit p q messages lost line answer given o x old new number itself up heard is asks (Calls c call_is makes) at h =
+    made_goes kept last_life p q messages lost c answer x old new number itself up (may_be_heard (had old.store) old.keys line old.me q.written o c heard (line_given limit old.keys line old.me given o is asks) call_is) makes at h
+followed_goes kept last_life had limit p q messages lost line answer given o x old new number itself up heard is asks (Misses file same text) at h = quiet p q messages lost x old new same at h
+followed_goes kept last_life had limit p q messages lost line answer given o x old new number itself up heard is asks (Is_large large same text) at h = quiet p q messages lost x old new same at h
+followed_goes kept last_life had limit p q messages lost line answer given o x old new number itself up heard is asks (Hands digest file content o_is stored written same text) at h = quiet p q messages lost x old new same at h
+followed_goes kept last_life had limit p q messages lost line answer given o x old new number itself up heard is asks (Has_not digest file o_is none same text) at h = quiet p q messages lost x old new same at h
+followed_goes kept last_life had limit p q messages lost line answer given o x old new number itself up heard is asks (Tells ask o_is same text) at h = quiet p q messages lost x old new same at h
 
-line_goes : {S : Type 0} (kept : Kept S) (last_life : S → ℕ) (limit : ℕ) (p q : Processes) (messages : List Message) (lost : Bool) (line answer : List ℕ) (given : Result (List ℕ) Lost) (old new : Seen S)
-    → IsNumber NODES old.me → old.at.node ≡ old.me → ((message : ToNode) → Orders old.key old.me line (order.Call (call.Receive message)) → In (to.ToNode message) q.written)
-    → IsKept limit line given → (f : Filters kept last_life given answer old new) → Went_on p old.me old.node messages q → Goes p (messages ++ said_of lost (line_messages f)) old new
-line_goes kept last_life limit p q messages lost line answer given old new number itself heard is (Is_down down same text) h = quiet p q messages lost old new same h
-line_goes kept last_life limit p q messages lost line answer given old new number itself heard is (Does o up asks follows) h =
-    followed_goes kept last_life limit p q messages lost line answer given o old new number itself heard is asks follows h
-line_goes kept last_life limit p q messages lost line answer given old new number itself heard is (Drops why up nothing_asked same text) h = quiet p q messages lost old new same h
+line_goes : {S : Type 0} (kept : Kept S) (last_life : S → ℕ) (had : HadBytes S) (limit : ℕ) (p q : Processes) (messages : List Message) (lost : Bool) (line answer : List ℕ) (given : Result (List ℕ) Lost) (x : Node) (old new : Seen S)
+    → IsNumber NODES old.me → old.at.node ≡ old.me → ((message : ToNode) → Orders old.keys old.me line (order.Call (call.Receive message)) → In (to.ToNode message) q.written)
+    → IsKept limit line given → (f : Filters kept last_life had given answer old new) → IsAt x old → Went_on p old.me x messages q → Goes p (messages ++ said_of lost (line_messages f)) (line_node x f) old new
+line_goes kept last_life had limit p q messages lost line answer given x old new number itself heard is (Is_down down same text) at h = quiet p q messages lost x old new same at h
+line_goes kept last_life had limit p q messages lost line answer given x old new number itself heard is (Does o up asks follows) at h =
+    followed_goes kept last_life had limit p q messages lost line answer given o x old new number itself up heard is asks follows at h
+line_goes kept last_life had limit p q messages lost line answer given x old new number itself heard is (Drops why up nothing_asked same text) at h = quiet p q messages lost x old new same at h
 
 -- all lines of a batch
-lines_go : {S : Type 0} (kept : Kept S) (last_life : S → ℕ) (limit : ℕ) (p q : Processes) (messages : List Message) (lost : Bool) (lines answers : List (List ℕ)) (old new : NodeFilter S)
-    → IsNumber NODES (seen old).me → (seen old).at.node ≡ (seen old).me → AreHeard (seen old).key (seen old).me lines p.written
-    → (h : served.Answers (node_steps kept last_life) limit old lines answers new) → Went_on p (seen old).me (seen old).node messages q
-    → (later : Processes) × Went_on p (seen old).me (seen new).node (messages ++ said_of lost (messages_of kept last_life limit old new lines answers h)) later
-lines_go kept last_life limit p q messages lost [] [] old new number itself heard h w =
-    (q, silent p q (seen old).me (seen new).node messages (said_of lost []) (none_more lost) (moved p q (seen old).me (seen old).node (seen new).node messages (ap (λ f. (seen f).node) (sym h)) w))
-lines_go kept last_life limit p q messages lost [] (a ∷ answers) old new number itself heard h w = absurd h
-lines_go kept last_life limit p q messages lost (l ∷ lines) [] old new number itself heard h w = absurd h
-lines_go kept last_life limit p q messages lost (l ∷ lines) (a ∷ answers) old new number itself heard h w =
+lines_go : {S : Type 0} (kept : Kept S) (last_life : S → ℕ) (had : HadBytes S) (limit : ℕ) (p q : Processes) (messages : List Message) (lost : Bool) (x : Node) (lines answers : List (List ℕ)) (old new : NodeFilter S)
+    → IsNumber NODES (seen old).me → (seen old).at.node ≡ (seen old).me → AreHeard (seen old).keys (seen old).me lines p.written
+    → (h : served.Answers (node_steps kept last_life had) limit old lines answers new) → IsAt x (seen old) → Went_on p (seen old).me x messages q
+    → (later : Processes) × Went_on p (seen old).me (node_after kept last_life had limit old new x lines answers h) (messages ++ said_of lost (messages_of kept last_life had limit old new lines answers h)) later
+    × IsAt (node_after kept last_life had limit old new x lines answers h) (seen new)
+lines_go kept last_life had limit p q messages lost x [] [] old new number itself heard h at w =
+    (q, silent p q (seen old).me x messages (said_of lost []) (none_more lost) w, subst (λ f. IsAt x (seen f)) h at)
+lines_go kept last_life had limit p q messages lost x [] (a ∷ answers) old new number itself heard h at w = absurd h
+lines_go kept last_life had limit p q messages lost x (l ∷ lines) [] old new number itself heard h at w = absurd h
+lines_go kept last_life had limit p q messages lost x (l ∷ lines) (a ∷ answers) old new number itself heard h at w =
     let mid = h.1 in
     let said : List Message = said_of lost (line_messages h.3) in
-    let more : List Message = messages_of kept last_life limit mid new lines answers h.4 in
-    let first = line_goes kept last_life limit p q messages lost l a h.0 (seen old) (seen mid) number itself
-    (λ m asks. subst (In (to.ToNode m)) (sym w.written) (still_in (to.ToNode m) p.written messages (heard l m (inl refl) asks))) h.2 h.3 w in
+    let more : List Message = messages_of kept last_life had limit mid new lines answers h.4 in
+    let y : Node = line_node x h.3 in
+    let z : Node = node_after kept last_life had limit mid new y lines answers h.4 in
+    let first = line_goes kept last_life had limit p q messages lost l a h.0 x (seen old) (seen mid) number itself
+    (λ m asks. subst (In (to.ToNode m)) (sym w.written) (still_in (to.ToNode m) p.written messages (heard l m (inl refl) asks))) h.2 h.3 at w in
     let me_is = first.me_is in
-    let rest = lines_go kept last_life limit p first.later (messages ++ said) lost lines answers mid new (subst (IsNumber NODES) (sym me_is) number)
+    let rest = lines_go kept last_life had limit p first.later (messages ++ said) lost y lines answers mid new (subst (IsNumber NODES) (sym me_is) number)
     (ap (λ at. at.node) first.at_is ∙ itself ∙ sym me_is)
-    (λ line m i asks. heard line m (inr i) (subst (λ k. Orders k (seen old).me line (order.Call (call.Receive m))) first.key_is (subst (λ n. Orders (seen mid).key n line (order.Call (call.Receive m))) me_is asks)))
-    h.4 (subst (λ n. Went_on p n (seen mid).node (messages ++ said) first.later) (sym me_is) first.went_on) in (
+    (λ line m i asks. heard line m (inr i) (subst (λ k. Orders k (seen old).me line (order.Call (call.Receive m))) first.key_is (subst (λ n. Orders (seen mid).keys n line (order.Call (call.Receive m))) me_is asks)))
+    h.4 first.node_is (subst (λ n. Went_on p n y (messages ++ said) first.later) (sym me_is) first.went_on) in (
       rest.0,
-      subst (λ ms. Went_on p (seen old).me (seen new).node ms rest.0) (append_assoc messages said (said_of lost more) ∙ ap (λ ms. messages ++ ms) (said_both lost (line_messages h.3) more))
-          (subst (λ n. Went_on p n (seen new).node ((messages ++ said) ++ said_of lost more) rest.0) me_is rest.1),
+      subst (λ ms. Went_on p (seen old).me z ms rest.0) (append_assoc messages said (said_of lost more) ∙ ap (λ ms. messages ++ ms) (said_both lost (line_messages h.3) more))
+          (subst (λ n. Went_on p n z ((messages ++ said) ++ said_of lost more) rest.0) me_is rest.1),
+      rest.2,
     )
 
 -- what is written says them
-line_says : {S : Type 0} (kept : Kept S) (last_life : S → ℕ) (given : Result (List ℕ) Lost) (answer : List ℕ) (old new : Seen S) → (f : Filters kept last_life given answer old new) → Says old.key (line_messages f) answer
-line_says kept last_life given answer old new (Is_down down same (inl text)) = subst (Says old.key []) (sym text) (store_fault_says old.key)
-line_says kept last_life given answer old new (Is_down down same (inr out)) = subst (Says old.key []) (sym out) (lost_says old.key)
-line_says kept last_life given answer old new (Does o up asks follows) = followed_says kept last_life o answer old new follows
-line_says kept last_life given answer old new (Drops why up nothing_asked same (inl text)) = subst (Says old.key []) (sym text) (unread_says old.key why)
-line_says kept last_life given answer old new (Drops why up nothing_asked same (inr out)) = subst (Says old.key []) (sym out) (lost_says old.key)
+line_says : {S : Type 0} (kept : Kept S) (last_life : S → ℕ) (had : HadBytes S) (given : Result (List ℕ) Lost) (answer : List ℕ) (old new : Seen S) → (f : Filters kept last_life had given answer old new) → Says old.keys (line_messages f) answer
+line_says kept last_life had given answer old new (Is_down down same (inl text)) = subst (Says old.keys []) (sym text) (store_fault_says old.keys)
+line_says kept last_life had given answer old new (Is_down down same (inr out)) = subst (Says old.keys []) (sym out) (lost_says old.keys)
+line_says kept last_life had given answer old new (Does o up asks follows) = followed_says kept last_life had o answer old new follows
+line_says kept last_life had given answer old new (Drops why up nothing_asked same (inl text)) = subst (Says old.keys []) (sym text) (unread_says old.keys why)
+line_says kept last_life had given answer old new (Drops why up nothing_asked same (inr out)) = subst (Says old.keys []) (sym out) (lost_says old.keys)
 
-key_stays : {S : Type 0} (kept : Kept S) (last_life : S → ℕ) (given : Result (List ℕ) Lost) (answer : List ℕ) (old new : Seen S) → Filters kept last_life given answer old new → new.key ≡ old.key
-key_stays kept last_life given answer old new (Is_down down same text) = ap (λ f. f.key) same
-key_stays kept last_life given answer old new (Does o up asks (Calls c is (Made done carries text))) = ap (λ f. f.key) carries.same
-key_stays kept last_life given answer old new (Does o up asks (Calls c is (Stopped same out))) = ap (λ f. f.key) same
-key_stays kept last_life given answer old new (Does o up asks (Misses file same text)) = ap (λ f. f.key) same
-key_stays kept last_life given answer old new (Does o up asks (Hands digest file is stored same text)) = ap (λ f. f.key) same
-key_stays kept last_life given answer old new (Does o up asks (Has_not digest file is none same text)) = ap (λ f. f.key) same
-key_stays kept last_life given answer old new (Does o up asks (Tells ask is same text)) = ap (λ f. f.key) same
-key_stays kept last_life given answer old new (Drops why up nothing_asked same text) = ap (λ f. f.key) same
+key_stays : {S : Type 0} (kept : Kept S) (last_life : S → ℕ) (had : HadBytes S) (given : Result (List ℕ) Lost) (answer : List ℕ) (old new : Seen S) → Filters kept last_life had given answer old new → new.keys ≡ old.keys
+key_stays kept last_life had given answer old new (Is_down down same text) = ap (λ f. f.keys) same
+key_stays kept last_life had given answer old new (Does o up asks (Calls c is (Made done carries text))) = ap (λ f. f.keys) carries.same
+key_stays kept last_life had given answer old new (Does o up asks (Calls c is (Stopped same out))) = ap (λ f. f.keys) same
+key_stays kept last_life had given answer old new (Does o up asks (Misses file same text)) = ap (λ f. f.keys) same
+key_stays kept last_life had given answer old new (Does o up asks (Is_large large same text)) = ap (λ f. f.keys) same
+key_stays kept last_life had given answer old new (Does o up asks (Hands digest file content is stored written same text)) = ap (λ f. f.keys) same
+key_stays kept last_life had given answer old new (Does o up asks (Has_not digest file is none same text)) = ap (λ f. f.keys) same
+key_stays kept last_life had given answer old new (Does o up asks (Tells ask is same text)) = ap (λ f. f.keys) same
+key_stays kept last_life had given answer old new (Drops why up nothing_asked same text) = ap (λ f. f.keys) same
 
-lines_say : {S : Type 0} (kept : Kept S) (last_life : S → ℕ) (limit : ℕ) (lines answers : List (List ℕ)) (old new : NodeFilter S) → (h : served.Answers (node_steps kept last_life) limit old lines answers new)
-    → Says (seen old).key (messages_of kept last_life limit old new lines answers h) (joined answers)
-lines_say kept last_life limit [] [] old new h = Says_nothing
-lines_say kept last_life limit [] (a ∷ answers) old new h = absurd h
-lines_say kept last_life limit (l ∷ lines) [] old new h = absurd h
-lines_say kept last_life limit (l ∷ lines) (a ∷ answers) old new h =
-    let rest = lines_say kept last_life limit lines answers h.1 new h.4 in
-    both_say (seen old).key (line_messages h.3) (messages_of kept last_life limit h.1 new lines answers h.4) a (joined answers) (line_says kept last_life h.0 a (seen old) (seen h.1) h.3)
-    (subst (λ k. Says k (messages_of kept last_life limit h.1 new lines answers h.4) (joined answers)) (key_stays kept last_life h.0 a (seen old) (seen h.1) h.3) rest)
+lines_say : {S : Type 0} (kept : Kept S) (last_life : S → ℕ) (had : HadBytes S) (limit : ℕ) (lines answers : List (List ℕ)) (old new : NodeFilter S) → (h : served.Answers (node_steps kept last_life had) limit old lines answers new)
+    → Says (seen old).keys (messages_of kept last_life had limit old new lines answers h) (joined answers)
+lines_say kept last_life had limit [] [] old new h = Says_nothing
+lines_say kept last_life had limit [] (a ∷ answers) old new h = absurd h
+lines_say kept last_life had limit (l ∷ lines) [] old new h = absurd h
+lines_say kept last_life had limit (l ∷ lines) (a ∷ answers) old new h =
+    let rest = lines_say kept last_life had limit lines answers h.1 new h.4 in
+    both_say (seen old).keys (line_messages h.3) (messages_of kept last_life had limit h.1 new lines answers h.4) a (joined answers) (line_says kept last_life had h.0 a (seen old) (seen h.1) h.3)
+    (subst (λ k. Says k (messages_of kept last_life had limit h.1 new lines answers h.4) (joined answers)) (key_stays kept last_life had h.0 a (seen old) (seen h.1) h.3) rest)
 
 -- ---- batches
 
-pub a_batch_is_a_run : {S : Type 0} (kept : Kept S) (last_life : S → ℕ) → ABatchIsARun kept last_life
-a_batch_is_a_run kept last_life limit lines text old new p is heard b =
-    let said : List Message = messages_of kept last_life limit old b.answered_to lines b.answers b.answered in
-    let goes = lines_go kept last_life limit p p [] false lines b.answers old b.answered_to is.number is.itself (are_heard (seen old).key (seen old).me lines p.written heard) b.answered (stays p (seen old).me (seen old).node is.node) in
+pub a_batch_is_a_run : {S : Type 0} (kept : Kept S) (last_life : S → ℕ) (had : HadBytes S) → ABatchIsARun kept last_life had
+a_batch_is_a_run kept last_life had limit lines text old new p is heard b =
+    let said : List Message = messages_of kept last_life had limit old b.answered_to lines b.answers b.answered in
+    let x : Node = p.nodes (seen old).me.0 in
+    let left : Node = node_after kept last_life had limit old b.answered_to x lines b.answers b.answered in
+    let goes = lines_go kept last_life had limit p p [] false x lines b.answers old b.answered_to is.number is.itself (are_heard (seen old).keys (seen old).me lines p.written heard) b.answered is.node (stays p (seen old).me x refl) in
     let same : new ≡ b.answered_to = b.made.1 in (
-      arrives p goes.0 (seen old).me (seen new).node said (moved p goes.0 (seen old).me (seen b.answered_to).node (seen new).node said (ap (λ f. (seen f).node) same) goes.1),
-      subst (Says (seen old).key said) (sym (b.text_is ∙ ap (λ s. settled_text s b.answers) b.made.0)) (lines_say kept last_life limit lines b.answers old b.answered_to b.answered),
+      arrives p goes.0 (seen old).me left said goes.1,
+      subst (Says (seen old).keys said) (sym (b.text_is ∙ ap (λ s. settled_text s b.answers) b.made.0)) (lines_say kept last_life had limit lines b.answers old b.answered_to b.answered),
+      subst (λ f. IsAt left (seen f)) (sym same) goes.2,
     )
 
-pub a_kill_is_a_run : {S : Type 0} (kept : Kept S) (last_life : S → ℕ) → AKillIsARun kept last_life
-a_kill_is_a_run kept last_life limit lines answers old new p is heard h =
-    let goes = lines_go kept last_life limit p p [] true lines answers old new is.number is.itself (are_heard (seen old).key (seen old).me lines p.written heard) h (stays p (seen old).me (seen old).node is.node) in
-    arrives p goes.0 (seen old).me (seen new).node [] goes.1
+pub a_kill_is_a_run : {S : Type 0} (kept : Kept S) (last_life : S → ℕ) (had : HadBytes S) → AKillIsARun kept last_life had
+a_kill_is_a_run kept last_life had limit lines answers old new p is heard h =
+    let x : Node = p.nodes (seen old).me.0 in
+    let goes = lines_go kept last_life had limit p p [] true x lines answers old new is.number is.itself (are_heard (seen old).keys (seen old).me lines p.written heard) h is.node (stays p (seen old).me x refl) in
+    let left : Node = node_after kept last_life had limit old new x lines answers h in
+    arrives p goes.0 (seen old).me left [] goes.1
 
 -- ---- the next life
 
@@ -391,8 +433,8 @@ a_kill_is_a_run kept last_life limit lines answers old new p is heard h =
 below : (a b : ℕ) → nat_lt a b ≡ true → a + 1 ≤ b
 below a b h = let less : a < b = grind (arith, nat_tests) in omega (arith, less)
 
-pub a_start_is_a_run : {S : Type 0} (kept : Kept S) (last_life : S → ℕ) → AStartIsARun kept last_life
-a_start_is_a_run kept last_life origin started p left begins =
+pub a_start_is_a_run : {S : Type 0} (kept : Kept S) (last_life : S → ℕ) (had : HadBytes S) → AStartIsARun kept last_life had
+a_start_is_a_run kept last_life had origin started p left begins =
     let me : NodeId = origin.me in
     let x : Node = p.nodes me.0 in
     let had : Node = kept_node origin.last origin.contents.items [] in
@@ -408,5 +450,5 @@ a_start_is_a_run kept last_life origin started p left begins =
     let sends : greeting ≡ begins.done.sends = ap (λ (w : NodeWork). w.sends) begins.begun in (
       arrives p lives.0 me (seen started.filter).node begins.done.sends
           (subst (λ ms. Went_on p me (seen started.filter).node ms lives.0) sends (moved p lives.0 me (has_life less life.0) (seen started.filter).node greeting is_node lives.1)),
-      greeting_says origin.key origin.skipped.items begins.done (string_bytes started.greeting) begins.written,
+      greeting_says (key_in origin.keys) origin.skipped.items begins.done (string_bytes started.greeting) begins.written,
     )

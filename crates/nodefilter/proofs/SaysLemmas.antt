@@ -23,19 +23,20 @@ use Rattle.nodelines.specs.declared.order.Call.{Call}
 use Rattle.nodelines.specs.declared.order.Order.{Order}
 use Rattle.nodelines.specs.Written.{versions_text, denied_ask, told_note, note_line, IsDone, content_line, over_text, state_text}
 use Rattle.nodefilter.specs.Carried.{about_call}
-use Rattle.nodefilter.specs.Filters.{store_fault, file_fault, no_content, IsAnswered, Makes, Follows}
-use Rattle.nodefilter.specs.Filters.Follows.{Calls, Misses, Hands, Has_not, Tells}
+use Rattle.nodefilter.specs.Filters.{store_fault, file_fault, too_large, no_content, IsAnswered, Makes, Follows}
+use Rattle.nodefilter.specs.Filters.Follows.{Calls, Misses, Is_large, Hands, Has_not, Tells}
 use Rattle.nodefilter.specs.Filters.Makes.{Made, Stopped}
 use Rattle.nodefilter.specs.Rules.{sends_of, made_messages, followed_messages}
 use Rattle.nodefilter.specs.Starts.{skipped_fact}
 use Rattle.nodefilter.specs.States.{Seen}
-use Rattle.nodestore.specs.Stores.{Kept}
+use Rattle.nodestore.specs.Stores.{Kept, HadBytes}
 use Rattle.schedule.specs.RefusalNames.{node_refusal_text}
 use Rattle.services.specs.Says.{Says}
 use Rattle.services.specs.Says.Says.{Says_nothing}
 use Rattle.services.specs.Served.{OrLost}
 use Rattle.services.proofs.SaysLemmas.{both_say, sends_say}
 use Rattle.services.proofs.NoteLemmas.{clean, word, ◌⊕◌, fact_says, of_each, node_note_ends, node_refusal_ends, fixed, noted_says, refused_says, lost_says}
+use Rattle.farmwire.specs.Sealed.{Keys}
 
 -- ---- texts
 
@@ -95,53 +96,57 @@ state_ends ask (Some state.Forgotten) = Lacks-from_test 10 (codes "none") refl
 
 -- ---- lines
 
-module _ (key : List ℕ) where
-  pub note_says : (it : About) (n : NodeNote) → Says key [] (note_line it n)
-  note_says it n = noted_says key (told_note it n) (told_ends it n)
+module _ (keys : Keys) where
+  pub note_says : (it : About) (n : NodeNote) → Says keys [] (note_line it n)
+  note_says it n = noted_says keys (told_note it n) (told_ends it n)
 
-  pub store_fault_says : Says key [] store_fault
-  store_fault_says = fixed key (codes " refused StoreFault") (Lacks-from_test 10 (codes " refused StoreFault") refl)
+  pub store_fault_says : Says keys [] store_fault
+  store_fault_says = fixed keys (codes " refused StoreFault") (Lacks-from_test 10 (codes " refused StoreFault") refl)
 
-  file_fault_says : Says key [] file_fault
-  file_fault_says = fixed key (codes " refused FileFault") (Lacks-from_test 10 (codes " refused FileFault") refl)
+  file_fault_says : Says keys [] file_fault
+  file_fault_says = fixed keys (codes " refused FileFault") (Lacks-from_test 10 (codes " refused FileFault") refl)
 
-  no_content_says : Says key [] no_content
-  no_content_says = fixed key (codes " refused NoSuchContent") (Lacks-from_test 10 (codes " refused NoSuchContent") refl)
+  too_large_says : Says keys [] too_large
+  too_large_says = fixed keys (codes " refused TooLarge") (Lacks-from_test 10 (codes " refused TooLarge") refl)
 
-  content_says : (d : Digest) → Says key [] (content_line d)
-  content_says d = noted_says key (codes "content" ++ spaced (digits_text d ∷ [])) (worded (codes "content") (digits_text d ∷ []) (Lacks-from_test 10 (codes "content") refl) (one_word (digits_text d) (digest_ends d)))
+  no_content_says : Says keys [] no_content
+  no_content_says = fixed keys (codes " refused NoSuchContent") (Lacks-from_test 10 (codes " refused NoSuchContent") refl)
+
+  content_says : (d : Digest) → Says keys [] (content_line d)
+  content_says d = noted_says keys (codes "content" ++ spaced (digits_text d ∷ [])) (worded (codes "content") (digits_text d ∷ []) (Lacks-from_test 10 (codes "content") refl) (one_word (digits_text d) (digest_ends d)))
 
   -- a text that says nothing, or that memory ran out
-  or_lost_says : (text answer : List ℕ) → Says key [] text → OrLost (λ t. t ≡ text) answer → Says key [] answer
-  or_lost_says text answer says (inl is) = subst (Says key []) (sym is) says
-  or_lost_says text answer says (inr out) = subst (Says key []) (sym out) (lost_says key)
+  or_lost_says : (text answer : List ℕ) → Says keys [] text → OrLost (λ t. t ≡ text) answer → Says keys [] answer
+  or_lost_says text answer says (inl is) = subst (Says keys []) (sym is) says
+  or_lost_says text answer says (inr out) = subst (Says keys []) (sym out) (lost_says keys)
 
   -- messages, these facts, and the note
-  done_says : (facts : List ℕ) (it : About) (done : NodeDone) (text : List ℕ) → Says key [] facts → IsDone key facts it done text → Says key done.sends text
+  done_says : (facts : List ℕ) (it : About) (done : NodeDone) (text : List ℕ) → Says keys [] facts → IsDone keys facts it done text → Says keys done.sends text
   done_says facts it done text say is =
-      subst (Says key done.sends) (sym is.text_is) (sends_say key done.sends is.sent (facts ++ note_line it done.note) is.sends (both_say key [] [] facts (note_line it done.note) say (note_says it done.note)))
+      subst (Says keys done.sends) (sym is.text_is) (sends_say keys done.sends is.sent (facts ++ note_line it done.note) is.sends (both_say keys [] [] facts (note_line it done.note) say (note_says it done.note)))
 
-  answer_says : (down : Bool) (it : About) (result : Result NodeDone NodeRefusal) (answer : List ℕ) → IsAnswered down key it result answer → Says key (sends_of down result) answer
-  answer_says true it result answer is = subst (Says key []) (sym is) store_fault_says
-  answer_says false it (Err e) answer is = subst (Says key []) (sym is) (refused_says key (node_refusal_text e) (node_refusal_ends e))
+  answer_says : (down : Bool) (it : About) (result : Result NodeDone NodeRefusal) (answer : List ℕ) → IsAnswered down keys it result answer → Says keys (sends_of down result) answer
+  answer_says true it result answer is = subst (Says keys []) (sym is) store_fault_says
+  answer_says false it (Err e) answer is = subst (Says keys []) (sym is) (refused_says keys (node_refusal_text e) (node_refusal_ends e))
   answer_says false it (Ok done) answer is = done_says [] it done answer Says_nothing is
 
   -- ---- a greeting
 
-  skipped_says : (d : Digest) → Says key [] (skipped_fact d)
-  skipped_says d = fact_says key (word (codes ": skipped ") refl ⊕ clean (digits_text d) (digest_ends d)) refl
+  skipped_says : (d : Digest) → Says keys [] (skipped_fact d)
+  skipped_says d = fact_says keys (word (codes ": skipped ") refl ⊕ clean (digits_text d) (digest_ends d)) refl
 
-  pub greeting_says : (skipped : List Digest) (done : NodeDone) (text : List ℕ) → IsDone key (flat_map skipped_fact skipped) about.Nothing done text → Says key done.sends text
+  pub greeting_says : (skipped : List Digest) (done : NodeDone) (text : List ℕ) → IsDone keys (flat_map skipped_fact skipped) about.Nothing done text → Says keys done.sends text
   greeting_says skipped done text is = done_says (flat_map skipped_fact skipped) about.Nothing done text (of_each skipped_fact skipped_says skipped).says is
 
-made_says : {S : Type 0} (kept : Kept S) (last_life : S → ℕ) (c : Call) (answer : List ℕ) (old new : Seen S) → (f : Makes kept last_life c old new answer) → Says old.key (made_messages f) answer
-made_says kept last_life c answer old new (Made done carries (inl written)) = answer_says old.key new.down (about_call c) done answer written
-made_says kept last_life c answer old new (Made done carries (inr out)) = subst (Says old.key []) (sym out) (lost_says old.key)
-made_says kept last_life c answer old new (Stopped same out) = subst (Says old.key []) (sym out) (lost_says old.key)
+made_says : {S : Type 0} (kept : Kept S) (last_life : S → ℕ) (c : Call) (answer : List ℕ) (old new : Seen S) → (f : Makes kept last_life c old new answer) → Says old.keys (made_messages f) answer
+made_says kept last_life c answer old new (Made done carries (inl written)) = answer_says old.keys new.down (about_call c) done answer written
+made_says kept last_life c answer old new (Made done carries (inr out)) = subst (Says old.keys []) (sym out) (lost_says old.keys)
+made_says kept last_life c answer old new (Stopped same out) = subst (Says old.keys []) (sym out) (lost_says old.keys)
 
-pub followed_says : {S : Type 0} (kept : Kept S) (last_life : S → ℕ) (o : Order) (answer : List ℕ) (old new : Seen S) → (f : Follows kept last_life o old new answer) → Says old.key (followed_messages f) answer
-followed_says kept last_life o answer old new (Calls c is makes) = made_says kept last_life c answer old new makes
-followed_says kept last_life o answer old new (Misses file same text) = or_lost_says old.key file_fault answer (file_fault_says old.key) text
-followed_says kept last_life o answer old new (Hands digest file is stored same text) = or_lost_says old.key (content_line digest) answer (content_says old.key digest) text
-followed_says kept last_life o answer old new (Has_not digest file is none same text) = or_lost_says old.key no_content answer (no_content_says old.key) text
-followed_says kept last_life o answer old new (Tells ask is same text) = or_lost_says old.key _ answer (noted_says old.key _ (state_ends ask _)) text
+pub followed_says : {S : Type 0} (kept : Kept S) (last_life : S → ℕ) (had : HadBytes S) (o : Order) (answer : List ℕ) (old new : Seen S) → (f : Follows kept last_life had o old new answer) → Says old.keys (followed_messages f) answer
+followed_says kept last_life had o answer old new (Calls c is makes) = made_says kept last_life c answer old new makes
+followed_says kept last_life had o answer old new (Misses file same text) = or_lost_says old.keys file_fault answer (file_fault_says old.keys) text
+followed_says kept last_life had o answer old new (Is_large large same text) = or_lost_says old.keys too_large answer (too_large_says old.keys) text
+followed_says kept last_life had o answer old new (Hands digest file content is stored written same text) = or_lost_says old.keys (content_line digest) answer (content_says old.keys digest) text
+followed_says kept last_life had o answer old new (Has_not digest file is none same text) = or_lost_says old.keys no_content answer (no_content_says old.keys) text
+followed_says kept last_life had o answer old new (Tells ask is same text) = or_lost_says old.keys _ answer (noted_says old.keys _ (state_ends ask _)) text

@@ -7,7 +7,7 @@ use Rattle.farm_base.specs.declared.message.ToNode.{ToNode}
 use Rattle.names.specs.declared.number.NodeId.{NodeId}
 use Rattle.farm_base.specs.Receivers.{receiver}
 use Rattle.farmwire.specs.declared.refusal.LineFault.TheVariants as line
-use Rattle.farmwire.specs.Sealed.{IsSealed, IsFault}
+use Rattle.farmwire.specs.Sealed.{IsSealed, IsFault, Keys}
 use Rattle.words.specs.Words.{words}
 use Rattle.services.specs.declared.lost.Lost.{Lost}
 use Rattle.services.specs.declared.unread.Unread.{Unread}
@@ -32,46 +32,46 @@ IsForOthers me (to.ToCoord message) = Unit {0}
 IsForOthers me (to.ToNode message) = receiver message ≢ me
 
 -- what stands behind `m ` is the sealed line of a message to this node
-pub record IsHeard (key : List ℕ) (me : NodeId) (sealed : List ℕ) (o : Order) : Type 0 where
+pub record IsHeard (keys : Keys) (me : NodeId) (sealed : List ℕ) (o : Order) : Type 0 where
   pub message : Message
-  pub opened : IsSealed key sealed message
+  pub opened : IsSealed keys sealed message
   pub mine : IsFor me message o
 
-module _ (key : List ℕ) (me : NodeId) (sealed : List ℕ) where
+module _ (keys : Keys) (me : NodeId) (sealed : List ℕ) where
   -- what stands behind `m ` is no such line
   abbrev pub IsDropped : Unread → Type 0
-  IsDropped TooLong = IsFault key sealed line.TooLong
-  IsDropped BadMac = IsFault key sealed line.BadMac
-  IsDropped BadForm = IsFault key sealed line.BadForm
-  IsDropped NotMine = (message : Message) × IsSealed key sealed message × IsForOthers me message
+  IsDropped TooLong = IsFault keys sealed line.TooLong
+  IsDropped BadMac = IsFault keys sealed line.BadMac
+  IsDropped BadForm = IsFault keys sealed line.BadForm
+  IsDropped NotMine = (message : Message) × IsSealed keys sealed message × IsForOthers me message
   IsDropped BadLine = ⊥
   IsDropped OutOfMemory = Unit {0}
 
 -- ---- a line
 
 -- the line asks for this
-pub data Orders (key : List ℕ) (me : NodeId) (text : List ℕ) (o : Order) : Type 0 where
-  Heard : (sealed : List ℕ) → text ≡ from_outside sealed → IsHeard key me sealed o → Orders key me text o
-  Own : IsUtf8 text → AskedBy (words text) o → Orders key me text o
+pub data Orders (keys : Keys) (me : NodeId) (text : List ℕ) (o : Order) : Type 0 where
+  Heard : (sealed : List ℕ) → text ≡ from_outside sealed → IsHeard keys me sealed o → Orders keys me text o
+  Own : IsUtf8 text → AskedBy (words text) o → Orders keys me text o
 
 -- the line is neither from outside nor the agent's
 pub record IsBadLine (text : List ℕ) : Type 0 where
   pub inside : (sealed : List ℕ) → text ≢ from_outside sealed
   pub not_own : IsUtf8 text → (o : Order) → AskedBy (words text) o → ⊥
 
-module _ (key : List ℕ) (me : NodeId) (text : List ℕ) where
+module _ (keys : Keys) (me : NodeId) (text : List ℕ) where
   -- the line asks for nothing, and this is why
   abbrev pub IsUnread : Unread → Type 0
   IsUnread BadLine = IsBadLine text
   IsUnread OutOfMemory = Unit {0}
-  IsUnread why = (sealed : List ℕ) × (text ≡ from_outside sealed) × IsDropped key me sealed why
+  IsUnread why = (sealed : List ℕ) × (text ≡ from_outside sealed) × IsDropped keys me sealed why
 
 -- what was handed on asks for this
-abbrev pub AsksFor : List ℕ → NodeId → Result (List ℕ) Lost → Order → Type 0
-AsksFor key me (Ok text) o = Orders key me text o
-AsksFor key me (Err lost) o = ⊥
+abbrev pub AsksFor : Keys → NodeId → Result (List ℕ) Lost → Order → Type 0
+AsksFor keys me (Ok text) o = Orders keys me text o
+AsksFor keys me (Err lost) o = ⊥
 
 -- what was handed on asks for nothing, and this is why
-abbrev pub AsksNothing : List ℕ → NodeId → Result (List ℕ) Lost → Unread → Type 0
-AsksNothing key me (Ok text) why = IsUnread key me text why
-AsksNothing key me (Err lost) why = why ≡ lost_line lost
+abbrev pub AsksNothing : Keys → NodeId → Result (List ℕ) Lost → Unread → Type 0
+AsksNothing keys me (Ok text) why = IsUnread keys me text why
+AsksNothing keys me (Err lost) why = why ≡ lost_line lost

@@ -1,12 +1,12 @@
 -- What a node does of a call (this project's own).
-use Rattle.std.specs.Prelude.{◌≡◌, ◌≤◌, ◌⊎◌, ℕ, true, List, [], ◌∷◌, map, Option, Some, None, is_some, Result, is_ok}
+use Rattle.std.specs.Prelude.{◌≡◌, ◌≤◌, ◌⊎◌, ℕ, ◌+◌, ◌*◌, true, false, List, [], ◌∷◌, map, Option, Some, None, is_some, Result, is_ok}
 use Rattle.std.specs.List.{Contains}
 use Rattle.names.specs.Contents.{content_digest}
 use Rattle.farm_base.specs.declared.message.FromCoord.{FromCoord}
 use Rattle.farm_base.specs.declared.message.FromCoord.TheVariants.{Granted, Committed, Fenced, Denied, Recall}
 use Rattle.farm_base.specs.declared.message.ToNode.TheVariants as to_node
 use Rattle.nodecore.specs.declared.message.NodeDone.{NodeDone}
-use Rattle.nodeasks.specs.Rows.{endings_after}
+use Rattle.nodeasks.specs.Rows.{endings_after, present_asks}
 use Rattle.nodecore.specs.Shown.{Answers, hearing}
 use Rattle.events.specs.declared.answer.NodeRefusal.{NodeRefusal}
 use Rattle.protocol.specs.Farm.{farm_limits}
@@ -87,16 +87,20 @@ about_call call.Resend = about.Nothing
 about_call (call.Bring content) = about.Nothing
 about_call (call.Forget digest) = about.Nothing
 
--- the node does what the rules make of the call, and what it stored is kept then. If it can't be, the filter is down
+-- the node does what the rules make of the call, and what it stored is kept then, and what it forgot no longer. If that fails, the filter is down
 pub record CarriesOut {S : Type 0} (kept : Kept S) (last_life : S → ℕ) (call : Call) (old new : Seen S)
     (answer : Result NodeDone NodeRefusal) : Type 0 where
   pub done : Answers (node_answer old.me old.at old.node call) old.node new.node answer
-  pub same : new ≡ record old { node = new.node; forgets = new.forgets; store = new.store; down = new.down }
+  pub same : new ≡ record old { node = new.node; forgets = new.forgets; held = new.held; store = new.store; down = new.down }
   -- an ask is forgotten only where 1,024 of greater numbers are over
   pub late : (a : ℕ) → new.forgets a ≡ true → (old.forgets a ≡ true) ⊎ (1024 ≤ endings_after a new.node.asks)
+  -- at most twice as many asks are held as are present, and 2,048 more: how older ones ended is forgotten
+  pub few : new.held ≤ 2 * present_asks new.node.asks + 2048
   pub others : StayKept kept (forgotten_by call) old.store new.store
   -- no life but the one that the process began is kept
   pub life : last_life new.store ≡ last_life old.store
-  -- the filter goes down only at a call that is done, and that brought a content which the node stores
-  pub fails : new.down ≡ true → (is_ok answer ≡ true) × SomeStored new.node.store (brought_by call)
+  -- a content that the node forgot is kept no longer
+  pub dropped : (d : Digest) → forgotten_by call ≡ Some d → is_ok answer ≡ true → new.down ≡ false → kept new.store d ≡ false
+  -- the filter goes down only at a call that is done, and that brought a content which the node stores, or forgot one
+  pub fails : new.down ≡ true → (is_ok answer ≡ true) × (SomeStored new.node.store (brought_by call) ⊎ (is_some (forgotten_by call) ≡ true))
   pub sound : IsSound kept old → IsSound kept new

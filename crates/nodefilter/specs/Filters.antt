@@ -1,5 +1,6 @@
 -- How a node's filter answers a line (this project's own).
-use Rattle.std.specs.Prelude.{◌≡◌, ◌≢◌, ℕ, Bool, true, false, List, [], map, codes, None, is_some, option_map, Result}
+use Rattle.std.specs.Prelude.{◌≡◌, ◌≢◌, ℕ, Bool, true, false, List, [], codes, Some, None, option_map, Result, slice_get}
+use Rattle.std.specs.List.{AllZip}
 use Rattle.names.specs.declared.digest.Digest.{Digest}
 use Rattle.farm_base.specs.declared.left.Left.{Left}
 use Rattle.names.specs.declared.number.Ask.{Ask}
@@ -23,10 +24,11 @@ use Rattle.nodelines.specs.declared.order.Order.TheVariants as order
 use Rattle.nodefilter.specs.Asked.{AsksFor, AsksNothing}
 use Rattle.nodefilter.specs.Carried.{about_call, CarriesOut}
 use Rattle.nodefilter.specs.States.{Seen}
-use Rattle.nodestore.specs.Stores.{Kept}
+use Rattle.nodestore.specs.Stores.{Kept, HadBytes, HasContent, IsTooLarge}
 use Rattle.nodelines.specs.Written.{noted, IsWritten, content_line, state_text}
+use Rattle.farmwire.specs.Sealed.{Keys}
 
--- a content of the node could not be kept, now or earlier
+-- a content of the node could not be kept or forgotten, now or earlier
 abbrev pub store_fault : List ℕ
 store_fault = codes "= refused StoreFault\n"
 
@@ -34,20 +36,36 @@ store_fault = codes "= refused StoreFault\n"
 abbrev pub file_fault : List ℕ
 file_fault = codes "= refused FileFault\n"
 
+-- a file of the agent's has more than a content may have
+abbrev pub too_large : List ℕ
+too_large = codes "= refused TooLarge\n"
+
 -- the content isn't stored here
 abbrev pub no_content : List ℕ
 no_content = codes "= refused NoSuchContent\n"
 
--- what was left in the slots of these files
-abbrev pub AreLeft : List LeftFile → List Left → Type 0
-AreLeft files lefts = map (λ (left : Left). left.slot) lefts ≡ map (λ (file : LeftFile). file.slot) files
+-- what was left in the slots of these files, where files had such bytes
+abbrev pub AreLeft : (List ℕ → List ℕ → Type 0) → List LeftFile → List Left → Type 0
+AreLeft Had files lefts = AllZip (λ (file : LeftFile) (left : Left). (left.slot ≡ file.slot) × Had file.file left.content) files lefts
 
--- the call that an order is for, once its files are read; of what they have nothing is known
-pub data IsCallOf : Order → Call → Type 0 where
-  Itself : (call : Call) → IsCallOf (order.Call call) call
-  Left_in : (ticket : Ticket) (files : List LeftFile) (lefts : List Left) → AreLeft files lefts
-      → IsCallOf (order.Finish ticket files) (call.Finish ticket lefts)
-  Brought_in : (file content : List ℕ) → IsCallOf (order.Blob file) (call.Bring content)
+-- the call that an order is for, once its files are read
+pub data IsCallOf (Had : List ℕ → List ℕ → Type 0) : Order → Call → Type 0 where
+  Itself : (call : Call) → IsCallOf Had (order.Call call) call
+  Left_in : (ticket : Ticket) (files : List LeftFile) (lefts : List Left) → AreLeft (HasContent Had) files lefts
+      → IsCallOf Had (order.Finish ticket files) (call.Finish ticket lefts)
+  Brought_in : (file content : List ℕ) → HasContent Had file content → IsCallOf Had (order.Blob file) (call.Bring content)
+
+-- one of these files has more than a content may have
+abbrev pub AnyLarge : (List ℕ → List ℕ → Type 0) → List LeftFile → Type 0
+AnyLarge Had files = (place : ℕ) × (file : LeftFile) × (slice_get files place ≡ Some file) × IsTooLarge Had file.file
+
+-- a file of the order has
+abbrev pub HasLarge : (List ℕ → List ℕ → Type 0) → Order → Type 0
+HasLarge Had (order.Call call) = ⊥
+HasLarge Had (order.Finish ticket files) = AnyLarge Had files
+HasLarge Had (order.Blob file) = IsTooLarge Had file
+HasLarge Had (order.Content digest file) = ⊥
+HasLarge Had (order.State ask) = ⊥
 
 -- the order needs a file
 abbrev pub HasFile : Order → Type 0
@@ -57,44 +75,46 @@ HasFile (order.Blob file) = Unit {0}
 HasFile (order.Content digest file) = Unit {0}
 HasFile (order.State ask) = ⊥
 
--- what is written of a call: where a content could not be kept, no message of it
-abbrev pub IsAnswered : Bool → List ℕ → About → Result NodeDone NodeRefusal → List ℕ → Type 0
-IsAnswered true key it answer text = text ≡ store_fault
-IsAnswered false key it answer text = IsWritten key it answer text
+-- what is written of a call: where a content could not be kept or forgotten, no message of it
+abbrev pub IsAnswered : Bool → Keys → About → Result NodeDone NodeRefusal → List ℕ → Type 0
+IsAnswered true keys it answer text = text ≡ store_fault
+IsAnswered false keys it answer text = IsWritten keys it answer text
 
 -- a call is made, or memory runs out before it
 pub data Makes {S : Type 0} (kept : Kept S) (last_life : S → ℕ) (call : Call) (old new : Seen S) (answer : List ℕ) : Type 0 where
   Made : (done : Result NodeDone NodeRefusal) → CarriesOut kept last_life call old new done
-      → OrLost (IsAnswered new.down old.key (about_call call) done) answer
+      → OrLost (IsAnswered new.down old.keys (about_call call) done) answer
       → Makes kept last_life call old new answer
   Stopped : new ≡ old → answer ≡ out_of_memory → Makes kept last_life call old new answer
 
 -- what comes of an order
-pub data Follows {S : Type 0} (kept : Kept S) (last_life : S → ℕ) (o : Order) (old new : Seen S) (answer : List ℕ) : Type 0 where
-  Calls : (call : Call) → IsCallOf o call → Makes kept last_life call old new answer → Follows kept last_life o old new answer
+pub data Follows {S : Type 0} (kept : Kept S) (last_life : S → ℕ) (had : HadBytes S) (o : Order) (old new : Seen S) (answer : List ℕ) : Type 0 where
+  Calls : (call : Call) → IsCallOf (had old.store) o call → Makes kept last_life call old new answer → Follows kept last_life had o old new answer
   -- a file can't be used, or memory runs out
-  Misses : HasFile o → new ≡ old → OrLost (λ text. text ≡ file_fault) answer → Follows kept last_life o old new answer
+  Misses : HasFile o → new ≡ old → OrLost (λ text. text ≡ file_fault) answer → Follows kept last_life had o old new answer
+  -- one of them has more than a content may have
+  Is_large : HasLarge (had old.store) o → new ≡ old → OrLost (λ text. text ≡ too_large) answer → Follows kept last_life had o old new answer
   -- the content of this digest is put in the file
-  Hands : (digest : Digest) (file : List ℕ) → o ≡ order.Content digest file → is_some (old.node.store digest) ≡ true
+  Hands : (digest : Digest) (file content : List ℕ) → o ≡ order.Content digest file → old.node.store digest ≡ Some content → had old.store file content
       → new ≡ old
-      → OrLost (λ text. text ≡ content_line digest) answer → Follows kept last_life o old new answer
+      → OrLost (λ text. text ≡ content_line digest) answer → Follows kept last_life had o old new answer
   -- it isn't stored here
   Has_not : (digest : Digest) (file : List ℕ) → o ≡ order.Content digest file → old.node.store digest ≡ None → new ≡ old
-      → OrLost (λ text. text ≡ no_content) answer → Follows kept last_life o old new answer
+      → OrLost (λ text. text ≡ no_content) answer → Follows kept last_life had o old new answer
   Tells : (ask : Ask) → o ≡ order.State ask → new ≡ old
       → OrLost (λ text. text ≡ noted (state_text ask (option_map (told_unless (old.forgets ask.0)) (nth old.node.asks ask.0)))) answer
-      → Follows kept last_life o old new answer
+      → Follows kept last_life had o old new answer
 
 -- a line is answered
-pub data Filters {S : Type 0} (kept : Kept S) (last_life : S → ℕ) (given : Result (List ℕ) Lost) (answer : List ℕ)
+pub data Filters {S : Type 0} (kept : Kept S) (last_life : S → ℕ) (had : HadBytes S) (given : Result (List ℕ) Lost) (answer : List ℕ)
     (old new : Seen S) : Type 0 where
-  -- since a content could not be kept nothing is done, until the process starts again
-  Is_down : old.down ≡ true → new ≡ old → OrLost (λ text. text ≡ store_fault) answer → Filters kept last_life given answer old new
-  Does : (o : Order) → old.down ≡ false → AsksFor old.key old.me given o → Follows kept last_life o old new answer
-      → Filters kept last_life given answer old new
-  Drops : (why : Unread) → old.down ≡ false → AsksNothing old.key old.me given why → new ≡ old
+  -- since a content could not be kept or forgotten nothing is done, until the process starts again
+  Is_down : old.down ≡ true → new ≡ old → OrLost (λ text. text ≡ store_fault) answer → Filters kept last_life had given answer old new
+  Does : (o : Order) → old.down ≡ false → AsksFor old.keys old.me given o → Follows kept last_life had o old new answer
+      → Filters kept last_life had given answer old new
+  Drops : (why : Unread) → old.down ≡ false → AsksNothing old.keys old.me given why → new ≡ old
       → OrLost (λ text. text ≡ unread_line why) answer
-      → Filters kept last_life given answer old new
+      → Filters kept last_life had given answer old new
 
 -- what was answered lasts: contents and the life are kept before a line is answered
 abbrev pub IsSettled : {S : Type 0} → S → Settled → S → Type 0

@@ -16,6 +16,7 @@ use Rattle.nodefilter.specs.declared.starting.Started.{Started}
 use Rattle.nodefilter.specs.States.{seen, IsSound}
 use Rattle.nodestore.specs.Stores.{Kept}
 use Rattle.nodelines.specs.Written.{IsDone}
+use Rattle.farmwire.specs.Sealed.{key_in}
 
 -- which node it is, and how many there are
 abbrev pub place_in : {S : Type 0} → Origin S → Place
@@ -35,8 +36,8 @@ pub record Begins {S : Type 0} (kept : Kept S) (last_life : S → ℕ) (origin :
   pub place : (seen started.filter).at ≡ place_in origin
   pub told : (seen started.filter).forgets ≡ none_lost
   pub me : (seen started.filter).me ≡ origin.me
-  pub key : (seen started.filter).key ≡ origin.key
+  pub keys : (seen started.filter).keys ≡ key_in origin.keys
   pub up : (seen started.filter).down ≡ false
   pub life : last_life (seen started.filter).store ≡ (seen started.filter).node.life.0
   pub sound : IsSound kept (seen started.filter)
-  pub written : IsDone origin.key (flat_map skipped_fact origin.skipped.items) about.Nothing done (string_bytes started.greeting)
+  pub written : IsDone (key_in origin.keys) (flat_map skipped_fact origin.skipped.items) about.Nothing done (string_bytes started.greeting)

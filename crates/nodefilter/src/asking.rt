@@ -1,9 +1,10 @@
 //! What a line asks of a node, its agent's or one from outside.
 ghost use Rattle.std.specs.Prelude.{IfOk, IfErr, IfSome, IfNone};
 ghost use Rattle.nodefilter.specs.Asked.{IsFor, IsForOthers, IsHeard, IsDropped, Orders, IsUnread, AsksFor, AsksNothing};
+ghost use Rattle.farmwire.specs.Sealed.{key_in};
 
 use farm_base::{Items, Message, NodeId};
-use farmwire::{FarmKey, ReadRefusal, open};
+use farmwire::{Keyring, ReadRefusal, open};
 use nodelines::{Call, Order, own_order};
 use services::{Lost, Unread, from_outside, lost_line, unread_of};
 use std::alloc::Global;
@@ -26,23 +27,23 @@ fn mine(me: NodeId, message: Message) -> Option<Order>
 }
 
 /// The call that a sealed line asks for.
-fn heard_order(alloc: Global, key: &FarmKey, me: NodeId, sealed: &[u8]) -> Result<Order, Unread>
-    ensures heard { IfOk result (IsHeard key.now me sealed.now) }
-    ensures dropped { IfErr result (IsDropped key.now me sealed.now) }
+fn heard_order(alloc: Global, keys: &Keyring, me: NodeId, sealed: &[u8]) -> Result<Order, Unread>
+    ensures heard { IfOk result (IsHeard (key_in keys.now) me sealed.now) }
+    ensures dropped { IfErr result (IsDropped (key_in keys.now) me sealed.now) }
 {
-    match open(alloc, key, sealed) {
+    match open(alloc, keys, sealed) {
         Ok(message) => mine(me, message).ok_or(Unread::NotMine),
         Err(fault) => Err(unread_of(fault)),
     }
 }
 
 /// What a line asks for.
-fn order_of(alloc: Global, key: &FarmKey, me: NodeId, line: &[u8]) -> Result<Order, Unread>
-    ensures asked { IfOk result (Orders key.now me line.now) }
-    ensures unread { IfErr result (IsUnread key.now me line.now) }
+fn order_of(alloc: Global, keys: &Keyring, me: NodeId, line: &[u8]) -> Result<Order, Unread>
+    ensures asked { IfOk result (Orders (key_in keys.now) me line.now) }
+    ensures unread { IfErr result (IsUnread (key_in keys.now) me line.now) }
 {
     if let Some(sealed) = from_outside(line) {
-        return heard_order(alloc, key, me, sealed);
+        return heard_order(alloc, keys, me, sealed);
     }
     let Ok(line) = str::from_utf8(line) else {
         return Err(Unread::BadLine);
@@ -57,15 +58,15 @@ fn order_of(alloc: Global, key: &FarmKey, me: NodeId, line: &[u8]) -> Result<Ord
 /// What is asked for by what is handed on.
 pub(crate) fn asked(
     alloc: Global,
-    key: &FarmKey,
+    keys: &Keyring,
     me: NodeId,
     line: Result<Items<u8>, Lost>,
 ) -> Result<Order, Unread>
-    ensures asked { IfOk result (AsksFor key.now me line) }
-    ensures nothing { IfErr result (AsksNothing key.now me line) }
+    ensures asked { IfOk result (AsksFor (key_in keys.now) me line) }
+    ensures nothing { IfErr result (AsksNothing (key_in keys.now) me line) }
 {
     match line {
-        Ok(line) => order_of(alloc, key, me, line.as_slice()),
+        Ok(line) => order_of(alloc, keys, me, line.as_slice()),
         Err(lost) => Err(lost_line(lost)),
     }
 }

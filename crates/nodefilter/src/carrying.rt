@@ -1,7 +1,9 @@
 //! Calls that are carried out.
-ghost use Rattle.std.specs.Prelude.{◌≡◌, ◌≤◌, ◌⊎◌, ◌∷◌, ℕ, [], true, false, map, Some, None, IfOk, OnOk, OnErr};
+ghost use Rattle.std.specs.Prelude.{◌≡◌, ◌≤◌, ◌⊎◌, ◌∷◌, ℕ, [], true, false, map, Some, None, is_some, IfOk, OnOk, OnErr};
 ghost use Rattle.names.specs.Contents.{content_digest};
+ghost use Rattle.protocol.specs.Names.{Digest};
 ghost use Rattle.nodeasks.specs.Rows.{endings_after};
+ghost use Rattle.nodecore.specs.HeldAsks.{IsFewHeld};
 ghost use Rattle.nodecore.specs.Shown.{forgets, shown, place, Answers};
 ghost use Rattle.nodelines.specs.declared.order.Call.{Call};
 ghost use Rattle.nodefilter.specs.Carried.{node_answer, brought_by, forgotten_by, about_told, about_call, SomeStored, CarriesOut};
@@ -50,6 +52,7 @@ fn answered(
     ensures done { Answers (node_answer me (place core.old) (shown core.old) call) (shown core.old) (shown core.new) result }
     ensures place { place core.new ≡ place core.old }
     ensures late { (a : ℕ) → forgets core.new a ≡ true → (forgets core.old a ≡ true) ⊎ (1024 ≤ endings_after a (shown core.new).asks) }
+    ensures few { IsFewHeld core.new }
 {
     let answer = answer(core, alloc, me, call);
     core.forget_endings();
@@ -153,16 +156,6 @@ fn forgotten_by(call: &Call) -> Option<Digest>
     }
 }
 
-/// Keeps a content no longer, if there is one that is to go.
-fn drop_kept<S: Store>(store: &mut S, gone: Option<Digest>)
-    ensures others { StayKept S.kept gone store.old store.new }
-    ensures life { S.last_life store.new ≡ S.last_life store.old }
-{
-    if let Some(digest) = gone {
-        store.forget(digest);
-    }
-}
-
 /// Keeps those of these contents that the node stores.
 fn keep_each<S: Store>(store: &mut S, core: &NodeCore, digests: &[Digest]) -> Result<(), StoreFault>
     ensures kept { OnOk result (AllKept S.kept (shown core.now).store digests.now store.new) }
@@ -178,7 +171,7 @@ fn keep_each<S: Store>(store: &mut S, core: &NodeCore, digests: &[Digest]) -> Re
     Ok(())
 }
 
-/// Keeps what the node stored at a call that it did, and no longer what it forgot. Tells whether all is kept.
+/// Keeps what the node stored at a call that it did, or no longer what it forgot. Tells whether that lasts.
 fn keep_changes<S: Store>(
     store: &mut S,
     core: &NodeCore,
@@ -188,15 +181,18 @@ fn keep_changes<S: Store>(
 ) -> bool
     ensures others { StayKept S.kept gone store.old store.new }
     ensures life { S.last_life store.new ≡ S.last_life store.old }
-    ensures fails { result ≡ false → (done ≡ true) × SomeStored (shown core.now).store brought.now }
-    ensures kept { result ≡ true → done ≡ true → AllKept S.kept (shown core.now).store brought.now store.new }
+    ensures fails { result ≡ false → (done ≡ true) × (SomeStored (shown core.now).store brought.now ⊎ (is_some gone ≡ true)) }
+    ensures kept { result ≡ true → done ≡ true → gone ≡ None → AllKept S.kept (shown core.now).store brought.now store.new }
+    ensures dropped { result ≡ true → done ≡ true → (d : Digest) → gone ≡ Some d → S.kept store.new d ≡ false }
     ensures idle { done ≡ false → (result ≡ true) × (store.new ≡ store.old) }
 {
     if !done {
         return true;
     }
-    drop_kept(store, gone);
-    keep_each(store, core, brought).is_ok()
+    match gone {
+        Some(digest) => store.forget(digest).is_ok(),
+        None => keep_each(store, core, brought).is_ok(),
+    }
 }
 
 /// Carries a call out, and keeps what the node stored.

@@ -1,38 +1,43 @@
 //! A node as a process that answers lines.
-ghost use Rattle.std.specs.Prelude.{◌≡◌, [], true, false, IfOk, is_ok};
+ghost use Rattle.std.specs.Prelude.{◌≡◌, [], true, false, IfOk, Err, is_ok};
 ghost use Rattle.std.specs.String.{string_bytes};
 ghost use Rattle.services.specs.Served.{answer_text, OrLost};
 ghost use Rattle.nodelines.specs.declared.order.Order.TheVariants as order;
-ghost use Rattle.nodefilter.specs.Filters.{file_fault, AreLeft, Makes, Follows, Filters};
+ghost use Rattle.nodefilter.specs.Filters.{file_fault, AreLeft, AnyLarge, Makes, Follows, Filters};
+ghost use Rattle.nodestore.specs.Stores.{HasContent};
+ghost use Rattle.nodestore.specs.declared.store.FileFault.TheVariants as faults;
 ghost use Rattle.nodefilter.specs.States.{seen};
 
 use super::asking::asked;
 use super::carrying::carry_out;
 use farm_base::{Ask, Copied, Digest, Items, Left, NodeId, Text, Ticket};
-use farmwire::FarmKey;
+use farmwire::Keyring;
 use nodecore::NodeCore;
 use nodelines::{Call, LeftFile, Order, print_carried, print_content, print_state};
 use nodestore::{FileFault, Store};
 use services::{Answer, Lost, Settled, Step, print_unread};
 use std::alloc::{AllocError, Global};
 
-/// What is answered from the moment on that a content of the node can't be kept.
+/// What is answered from the moment on that a content of the node can't be kept or forgotten.
 const STORE_FAULT: &str = "= refused StoreFault\n";
 
 /// What is answered where a file of the agent's can't be used.
 const FILE_FAULT: &str = "= refused FileFault\n";
 
+/// What is answered where a file of the agent's has more bytes than a content may have.
+const TOO_LARGE: &str = "= refused TooLarge\n";
+
 /// What is answered where a content isn't stored here.
 const NO_CONTENT: &str = "= refused NoSuchContent\n";
 
-/// A node that answers lines: those of other processes, which come and go sealed under the farm's key, and its agent's.
+/// A node that answers lines: the coordinator's, sealed under its key, those of other nodes, which bring and fetch contents, and its agent's.
 pub struct NodeFilter<S: Store> {
     pub core: NodeCore,
     /// The node's number.
     pub me: NodeId,
-    pub key: FarmKey,
+    pub keys: Keyring,
     pub store: S,
-    /// Whether a content of the node could not be kept. Then nothing is done any more: the process has to end.
+    /// Whether a content of the node could not be kept or forgotten. Then nothing is done any more: the process has to end.
     pub down: bool,
 }
 
@@ -42,7 +47,7 @@ impl<S: Store> Drop for NodeFilter<S> {
         let Self {
             core: _,
             me: _,
-            key: _,
+            keys: _,
             store: _,
             down: _,
         } = self;
@@ -69,7 +74,7 @@ fn make<S: Store>(
     if filter.down {
         return print_line(alloc, STORE_FAULT);
     }
-    print_carried(alloc, &filter.key, carried)
+    print_carried(alloc, &filter.keys, carried)
 }
 
 /// The answer where a file can't be used.
@@ -77,8 +82,8 @@ fn missed(alloc: Global, fault: FileFault) -> Result<String, AllocError>
     ensures { OrLost (λ text. text ≡ file_fault) (answer_text result) }
 {
     match fault {
-        FileFault::Unusable => print_line(alloc, FILE_FAULT),
         FileFault::OutOfMemory => Err(AllocError),
+        _ => print_line(alloc, FILE_FAULT),
     }
 }
 
@@ -88,7 +93,8 @@ fn lefts_in<S: Store>(
     store: &S,
     files: &[LeftFile],
 ) -> Result<Items<Left>, FileFault>
-    ensures lefts { IfOk result (AreLeft files.now) }
+    ensures lefts { IfOk result (AreLeft (HasContent (S.had store.now)) files.now) }
+    ensures large { result ≡ Err faults.TooLarge → AnyLarge (S.had store.now) files.now }
     ensures fails { files.now ≡ [] → is_ok result ≡ true }
 {
     let mut lefts = Vec::new(alloc);
@@ -108,10 +114,11 @@ fn finish<S: Store>(
     files: Items<LeftFile>,
 ) -> Result<String, AllocError>
     requires { filter.old.down ≡ false }
-    ensures { Follows S.kept S.last_life (order.Finish ticket files) (seen filter.old) (seen filter.new) (answer_text result) }
+    ensures { Follows S.kept S.last_life S.had (order.Finish ticket files) (seen filter.old) (seen filter.new) (answer_text result) }
 {
     match lefts_in(alloc, &filter.store, files.as_slice()) {
         Ok(lefts) => make(filter, alloc, Call::Finish(ticket, lefts)),
+        Err(FileFault::TooLarge) => print_line(alloc, TOO_LARGE),
         Err(fault) => missed(alloc, fault),
     }
 }
@@ -123,10 +130,11 @@ fn bring<S: Store>(
     file: Text,
 ) -> Result<String, AllocError>
     requires { filter.old.down ≡ false }
-    ensures { Follows S.kept S.last_life (order.Blob file) (seen filter.old) (seen filter.new) (answer_text result) }
+    ensures { Follows S.kept S.last_life S.had (order.Blob file) (seen filter.old) (seen filter.new) (answer_text result) }
 {
     match filter.store.read(alloc, file.as_str()) {
         Ok(content) => make(filter, alloc, Call::Bring(content)),
+        Err(FileFault::TooLarge) => print_line(alloc, TOO_LARGE),
         Err(fault) => missed(alloc, fault),
     }
 }
@@ -138,7 +146,7 @@ fn hand<S: Store>(
     digest: Digest,
     file: Text,
 ) -> Result<String, AllocError>
-    ensures { Follows S.kept S.last_life (order.Content digest file) (seen filter.now) (seen filter.now) (answer_text result) }
+    ensures { Follows S.kept S.last_life S.had (order.Content digest file) (seen filter.now) (seen filter.now) (answer_text result) }
 {
     let Some(content) = filter.core.content(&digest) else {
         return print_line(alloc, NO_CONTENT);
@@ -151,7 +159,7 @@ fn hand<S: Store>(
 
 /// `state`: how an ask stands.
 fn tell<S: Store>(filter: &NodeFilter<S>, alloc: Global, ask: Ask) -> Result<String, AllocError>
-    ensures { Follows S.kept S.last_life (order.State ask) (seen filter.now) (seen filter.now) (answer_text result) }
+    ensures { Follows S.kept S.last_life S.had (order.State ask) (seen filter.now) (seen filter.now) (answer_text result) }
 {
     let state = filter.core.ask_state(alloc, ask)?;
     print_state(alloc, ask, &state)
@@ -164,12 +172,12 @@ impl<S: Store> NodeFilter<S> {
         alloc: Global,
         line: Result<Items<u8>, Lost>,
     ) -> Result<String, AllocError>
-        ensures { Filters S.kept S.last_life line (answer_text result) (seen self.old) (seen self.new) }
+        ensures { Filters S.kept S.last_life S.had line (answer_text result) (seen self.old) (seen self.new) }
     {
         if self.down {
             return print_line(alloc, STORE_FAULT);
         }
-        match asked(alloc, &self.key, self.me, line) {
+        match asked(alloc, &self.keys, self.me, line) {
             Ok(Order::Call(call)) => make(self, alloc, call),
             Ok(Order::Finish(ticket, files)) => finish(self, alloc, ticket, files),
             Ok(Order::Blob(file)) => bring(self, alloc, file),
@@ -184,7 +192,7 @@ impl<S: Store> Step for NodeFilter<S> {
     ghost use Rattle.nodefilter.specs.Filters.{Filters, IsSettled};
     ghost use Rattle.nodefilter.specs.States.{seen};
 
-    ghost steps = { λ old line answer new. Filters S.kept S.last_life line answer (seen old) (seen new) };
+    ghost steps = { λ old line answer new. Filters S.kept S.last_life S.had line answer (seen old) (seen new) };
 
     ghost settles = { IsSettled };
 

@@ -9,10 +9,11 @@ ghost use Rattle.protocol.specs.Nodes.{may_restart};
 ghost use Rattle.nodelines.specs.declared.about.About.TheVariants as about;
 ghost use Rattle.nodelines.specs.Written.{IsDone};
 ghost use Rattle.nodefilter.specs.Starts.{skipped_fact, Begins};
+ghost use Rattle.farmwire.specs.Sealed.{key_in};
 
 use super::filter::NodeFilter;
 use farm_base::{Content, Digest, Key, Life, NodeId};
-use farmwire::FarmKey;
+use farmwire::Keyring;
 use nodecore::{KeptContents, NodeCore, NodeDone, ResumeRefusal};
 use nodelines::{About, print_done};
 use nodestore::Store;
@@ -25,7 +26,7 @@ pub struct Origin<S: Store> {
     pub me: NodeId,
     /// The greatest number of a node that the farm will have.
     pub nodes: u32,
-    pub key: FarmKey,
+    pub keys: Keyring,
     pub store: S,
     /// What the store kept.
     pub contents: Vec<Content>,
@@ -77,14 +78,14 @@ fn skipped_facts(alloc: Global, skipped: &[Digest]) -> Result<String, AllocError
 /// What a node writes first.
 fn greeting(
     alloc: Global,
-    key: &FarmKey,
+    keys: &Keyring,
     skipped: &[Digest],
     done: NodeDone,
 ) -> Result<String, AllocError>
-    ensures { IfOk result (λ text. IsDone key.now (flat_map skipped_fact skipped.now) about.Nothing done (string_bytes text)) }
+    ensures { IfOk result (λ text. IsDone (key_in keys.now) (flat_map skipped_fact skipped.now) about.Nothing done (string_bytes text)) }
 {
     let facts = skipped_facts(alloc, skipped)?;
-    print_done(alloc, key, facts.as_str(), &About::Nothing, done)
+    print_done(alloc, keys, facts.as_str(), &About::Nothing, done)
 }
 
 /// Begins the life after the last one: it is kept before its greeting is handed out. The executions of the last one have to be over.
@@ -96,7 +97,7 @@ pub fn start<S: Store>(alloc: Global, origin: Origin<S>) -> Result<Started<S>, S
     let Origin {
         me,
         nodes,
-        key,
+        keys,
         mut store,
         contents,
         skipped,
@@ -114,13 +115,13 @@ pub fn start<S: Store>(alloc: Global, origin: Origin<S>) -> Result<Started<S>, S
     if store.keep_life(core.life()).is_err() {
         return Err(StartFault::NotKept);
     }
-    let Ok(greeting) = greeting(alloc, &key, skipped.as_slice(), done) else {
+    let Ok(greeting) = greeting(alloc, &keys, skipped.as_slice(), done) else {
         return Err(StartFault::OutOfMemory);
     };
     let filter = NodeFilter {
         core,
         me,
-        key,
+        keys,
         store,
         down: false,
     };

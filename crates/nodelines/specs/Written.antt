@@ -19,6 +19,7 @@ use Rattle.schedule.specs.RefusalNames.{node_refusal_text}
 use Rattle.services.specs.Outside.{Sends}
 use Rattle.nodelines.specs.declared.about.About.{About}
 use Rattle.nodelines.specs.declared.about.About.TheVariants as about
+use Rattle.farmwire.specs.Sealed.{Keys}
 
 -- `= `, a note, and the end of the line
 abbrev pub noted : List ℕ → List ℕ
@@ -50,15 +51,15 @@ abbrev pub refused_line : NodeRefusal → List ℕ
 refused_line refusal = codes "= refused " ++ (node_refusal_text refusal ++ codes "\n")
 
 -- the messages, then facts, then the note
-pub record IsDone (key facts : List ℕ) (it : About) (done : NodeDone) (text : List ℕ) : Type 0 where
+pub record IsDone (keys : Keys) (facts : List ℕ) (it : About) (done : NodeDone) (text : List ℕ) : Type 0 where
   pub sent : List ℕ
-  pub sends : Sends key done.sends [] sent
+  pub sends : Sends keys done.sends [] sent
   pub text_is : text ≡ sent ++ (facts ++ note_line it done.note)
 
 -- what was done, or the refusal
-abbrev pub IsWritten : List ℕ → About → Result NodeDone NodeRefusal → List ℕ → Type 0
-IsWritten key it (Ok done) text = IsDone key [] it done text
-IsWritten key it (Err refusal) text = text ≡ refused_line refusal
+abbrev pub IsWritten : Keys → About → Result NodeDone NodeRefusal → List ℕ → Type 0
+IsWritten keys it (Ok done) text = IsDone keys [] it done text
+IsWritten keys it (Err refusal) text = text ≡ refused_line refusal
 
 -- the content was put in the file
 abbrev pub content_line : Digest → List ℕ

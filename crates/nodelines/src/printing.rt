@@ -5,12 +5,13 @@ ghost use Rattle.words.specs.Words.{ticket_text};
 ghost use Rattle.farmwire.specs.Lines.{grant_words};
 ghost use Rattle.farmwire.specs.Words.{spaced};
 ghost use Rattle.nodelines.specs.Written.{noted, versions_text, denied_ask, told_note, refused_line, IsDone, IsWritten, content_line, over_text, state_text};
+ghost use Rattle.farmwire.specs.Sealed.{key_in};
 
 use super::about::{About, Carried};
 use events::{EventNote, EventRefusal, How, NodeNote, NodeRefusal};
 use farm_base::{Ask, Digest, Grant, Key, Ticket};
 use farmwire::item::push_items;
-use farmwire::{FarmKey, push_grant, push_number, push_word};
+use farmwire::{Keyring, push_grant, push_number, push_word};
 use nodecore::{AskState, NodeDone};
 use schedule::{print_note, refusal_name};
 use services::push_messages;
@@ -90,16 +91,16 @@ fn push_told(
 /// The text of what was done: the messages, the facts and the note.
 pub fn print_done(
     alloc: Global,
-    key: &FarmKey,
+    keys: &Keyring,
     facts: &str,
     about: &About,
     done: NodeDone,
 ) -> Result<String, AllocError>
-    ensures { IfOk result (λ text. IsDone key.now facts.now about.now done (string_bytes text)) }
+    ensures { IfOk result (λ text. IsDone (key_in keys.now) facts.now about.now done (string_bytes text)) }
 {
     let NodeDone { note, sends } = done;
     let mut text = String::new(alloc);
-    push_messages(alloc, key, &mut text, sends.as_slice())?;
+    push_messages(alloc, keys, &mut text, sends.as_slice())?;
     text.push_str(facts)?;
     text.push_str("= ")?;
     push_told(alloc, &mut text, about, note)?;
@@ -118,12 +119,12 @@ fn print_refusal(alloc: Global, refusal: NodeRefusal) -> Result<String, AllocErr
 }
 
 /// The text of what came of a call.
-pub fn print_carried(alloc: Global, key: &FarmKey, carried: Carried) -> Result<String, AllocError>
-    ensures { IfOk result (λ text. IsWritten key.now carried.about carried.answer (string_bytes text)) }
+pub fn print_carried(alloc: Global, keys: &Keyring, carried: Carried) -> Result<String, AllocError>
+    ensures { IfOk result (λ text. IsWritten (key_in keys.now) carried.about carried.answer (string_bytes text)) }
 {
     let Carried { about, answer } = carried;
     match answer {
-        Ok(done) => print_done(alloc, key, "", &about, done),
+        Ok(done) => print_done(alloc, keys, "", &about, done),
         Err(refusal) => print_refusal(alloc, refusal),
     }
 }

@@ -1,6 +1,7 @@
 -- What a store in files knows to be kept.
-use Rattle.std.proofs.Common.{◌≡◌, ◌≢◌, ℕ, Bool, true, false, ◌||◌, not, if◌then◌else◌, List, [], ◌∷◌, ◌++◌, filter, Some, refl, sym, ap, ◌∙◌, subst}
+use Rattle.std.proofs.Common.{◌≡◌, ◌≢◌, ℕ, Bool, true, false, ◌||◌, not, if◌then◌else◌, List, [], ◌∷◌, ◌++◌, filter, Some, Result, Ok, Err, OnOk, refl, sym, ap, ◌∙◌, subst}
 use Rattle.std.specs.List.{All, list_any}
+use Rattle.std.specs.Result.{is_err}
 use Rattle.std.proofs.lemmas.List.Elements.{All-push, All-weaker}
 use Rattle.std.proofs.lemmas.Bool.{or_left, or_right}
 use Rattle.std.proofs.lemmas.List.Folds.{list_any-append}
@@ -48,3 +49,18 @@ kept_front gone d e rest false false g i apart more h = or_right (digest_eq e d)
 pub still_among : (gone d : Digest) (ds : List Digest) → Some gone ≢ Some d → is_among ds d ≡ true → is_among (filter (λ (x : Digest). not (digest_eq x gone)) ds) d ≡ true
 still_among gone d [] apart h = absurd (cc h)
 still_among gone d (e ∷ ds) apart h = kept_front gone d e ds (digest_eq e gone) (digest_eq e d) refl refl apart (still_among gone d ds apart) h
+
+-- and what was taken away isn't
+gone_front : (gone e : Digest) (rest : List Digest) (is_gone : Bool) → digest_eq e gone ≡ is_gone → is_among (filter (λ (x : Digest). not (digest_eq x gone)) rest) gone ≡ false
+    → is_among (if not is_gone then e ∷ filter (λ (x : Digest). not (digest_eq x gone)) rest else filter (λ (x : Digest). not (digest_eq x gone)) rest) gone ≡ false
+gone_front gone e rest true g more = more
+gone_front gone e rest false g more = rw g more
+
+pub is_gone : (gone : Digest) (ds : List Digest) → is_among (filter (λ (x : Digest). not (digest_eq x gone)) ds) gone ≡ false
+is_gone gone [] = refl
+is_gone gone (e ∷ ds) = gone_front gone e ds (digest_eq e gone) refl (is_gone gone ds)
+
+-- what holds where the call went well
+pub went_well : {T E : Type 0} (r : Result T E) (P : Type 0) → is_err r ≡ false → OnOk r P → P
+went_well (Ok x) P fine h = h
+went_well (Err e) P fine h = absurd (cc fine)

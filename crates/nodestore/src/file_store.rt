@@ -1,9 +1,9 @@
 //! Keeps a node's contents and its last life in a folder.
-ghost use Rattle.std.specs.Prelude.{◌≡◌, IfOk};
-ghost use Rattle.nodestore.specs.Stores.{has_digest, HasFound};
+ghost use Rattle.std.specs.Prelude.{◌≡◌, false, Some, IfOk, OnOk, OnErr};
+ghost use Rattle.names.specs.Contents.{content_digest};
+ghost use Rattle.nodestore.specs.Stores.{has_digest, with_digest, with_life, HasFound, StayKept};
 
 use super::life::{life_in, life_text};
-use super::store::{FileFault, Store, StoreFault};
 use names::{Content, Digest, Key, Life, NodeId};
 use std::alloc::{AllocError, Global};
 use std::fs::{self, OpenFile};
@@ -15,7 +15,8 @@ use thiserror::Error;
 /// Keeps contents in the files `contents/DIGEST` of a folder, and in its file `life` the node and its last life. Each is written
 /// beside, synced and renamed, and then its folder is synced: so whatever ends the process, a file that is there is whole.
 ///
-/// What is proved is said of what it knows to be kept. That a device keeps what was synced is trusted.
+/// What is proved is said of what it knows to be kept, which changes by its own methods alone: what these do with files is trusted, and
+/// that a device keeps what was synced.
 #[derive(Drop)]
 pub struct FileStore<'a, R: Files> {
     files: &'a R,
@@ -127,19 +128,6 @@ fn read_file<R: Files>(files: &R, alloc: Global, path: &str) -> io::Result<Optio
     }
 }
 
-/// Writes a file of the agent's.
-fn write_file<R: Files>(files: &R, path: &str, bytes: &[u8]) -> io::Result<()> {
-    fs::create(files, path)?.write_all(bytes)
-}
-
-/// Why a file of the agent's can't be used.
-fn file_fault(error: io::Error) -> FileFault {
-    match error.kind() {
-        ErrorKind::OutOfMemory => FileFault::OutOfMemory,
-        _ => FileFault::Unusable,
-    }
-}
-
 /// The last life that a folder has, 0 where it has none.
 fn last_life<R: Files>(
     files: &R,
@@ -197,7 +185,7 @@ impl<'a, R: Files> FileStore<'a, R> {
     }
 
     /// Whether a content is known to be kept.
-    fn has(&self, digest: Digest) -> bool
+    pub(crate) fn has(&self, digest: Digest) -> bool
         ensures { result ≡ has_digest self.now digest }
     {
         self.digests.iter().any(|kept| *kept == digest)
@@ -223,11 +211,36 @@ impl<'a, R: Files> FileStore<'a, R> {
         )
     }
 
-    /// Removes the file of a content.
-    fn remove_content(&self, digest: Digest) -> io::Result<()> {
+    /// Puts a content in its file, and knows it to be kept then.
+    pub(crate) fn write_content(&mut self, content: &Content) -> io::Result<()>
+        ensures done { OnOk result (self.new ≡ with_digest (content_digest content.now) self.old) }
+        ensures failed { OnErr result (self.new ≡ self.old) }
+    {
+        self.digests.reserve(1)?;
+        self.put_content(content)?;
+        self.digests.push_reserved(content.digest());
+        Ok(())
+    }
+
+    /// Removes the file of a content, if it is there, and waits until the device has no such name.
+    fn remove_file(&self, digest: Digest) -> io::Result<()> {
+        let folder = format!(in self.alloc; "{}/contents", self.folder)?;
         let name = Key(digest).to_text(self.alloc)?;
-        let path = format!(in self.alloc; "{}/contents/{}", self.folder, name)?;
-        fs::remove_file(self.files, path.as_str())
+        let path = format!(in self.alloc; "{folder}/{name}")?;
+        match fs::remove_file(self.files, path.as_str()) {
+            Err(error) if error.kind() != ErrorKind::NotFound => Err(error),
+            _ => sync_names(self.files, folder.as_str()),
+        }
+    }
+
+    /// Removes a content, and doesn't know it to be kept any more, also where that fails.
+    pub(crate) fn remove_content(&mut self, digest: Digest) -> io::Result<()>
+        ensures gone { has_digest self.new digest ≡ false }
+        ensures others { StayKept has_digest (Some digest) self.old self.new }
+        ensures life { self.new.last ≡ self.old.last }
+    {
+        self.digests.retain(|kept| *kept != digest);
+        self.remove_file(digest)
     }
 
     /// Puts a life in its file.
@@ -240,6 +253,26 @@ impl<'a, R: Files> FileStore<'a, R> {
             "life",
             text.as_bytes(),
         )
+    }
+
+    /// Puts a life in its file, and knows it to be the last one then.
+    pub(crate) fn write_life(&mut self, life: Life) -> io::Result<()>
+        ensures done { OnOk result (self.new ≡ with_life life self.old) }
+        ensures failed { OnErr result (self.new ≡ self.old) }
+    {
+        self.put_life(life)?;
+        self.last = life;
+        Ok(())
+    }
+
+    /// The bytes of a file of the agent's, if it is there.
+    pub(crate) fn read_bytes(&self, alloc: Global, path: &str) -> io::Result<Option<Vec<u8>>> {
+        read_file(self.files, alloc, path)
+    }
+
+    /// Puts bytes in a file of the agent's.
+    pub(crate) fn write_bytes(&self, path: &str, bytes: &[u8]) -> io::Result<()> {
+        fs::create(self.files, path)?.write_all(bytes)
     }
 }
 
@@ -304,50 +337,4 @@ pub fn open_store<'a, R: Files + Alloc + Clone + Drop>(
     let digests = kept_digests(files, alloc, folder)?;
     let found = store.find_all(alloc, digests.as_slice())?;
     Ok((store, found))
-}
-
-impl<'a, R: Files> Store for FileStore<'a, R> {
-    ghost kept = { has_digest };
-
-    ghost last_life = { λ s. s.last.0 };
-
-    fn keep(&mut self, content: &Content) -> Result<(), StoreFault> {
-        let digest = content.digest();
-        if self.has(digest) {
-            return Ok(());
-        }
-        if self.digests.reserve(1).is_err() || self.put_content(content).is_err() {
-            return Err(StoreFault);
-        }
-        self.digests.push_reserved(digest);
-        Ok(())
-    }
-
-    fn keep_life(&mut self, life: Life) -> Result<(), StoreFault> {
-        if self.put_life(life).is_err() {
-            return Err(StoreFault);
-        }
-        self.last = life;
-        Ok(())
-    }
-
-    fn forget(&mut self, digest: Digest) {
-        self.digests.retain(|kept| *kept != digest);
-        let _removed = self.remove_content(digest);
-    }
-
-    fn read(&self, alloc: Global, file: &str) -> Result<Content, FileFault> {
-        match read_file(self.files, alloc, file) {
-            Ok(Some(bytes)) => Ok(Content::of(bytes)),
-            Ok(None) => Err(FileFault::Unusable),
-            Err(error) => Err(file_fault(error)),
-        }
-    }
-
-    fn write(&self, file: &str, bytes: &[u8]) -> Result<(), FileFault> {
-        match write_file(self.files, file, bytes) {
-            Ok(()) => Ok(()),
-            Err(error) => Err(file_fault(error)),
-        }
-    }
 }

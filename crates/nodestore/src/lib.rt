@@ -4,6 +4,7 @@
 mod file_store;
 mod life;
 mod store;
+mod storing;
 
 pub use file_store::{FileStore, Found, OpenFault, open_store};
-pub use store::{FileFault, Store, StoreFault};
+pub use store::{CONTENT_LIMIT, FileFault, Store, StoreFault};

@@ -3,7 +3,7 @@
 
 use coordinator::Coordinator;
 use coordinatorfilter::CoordinatorFilter;
-use farmwire::FarmKey;
+use farmwire::{FarmKey, Keyring};
 use filekeeper::Gathered;
 use saverecord::{Kept, MemoryKeeper};
 use services::serve;
@@ -18,14 +18,14 @@ const RECORD: &str =
 
 /// Two lines, of which the first changes what is saved.
 const LINES: &str =
-    "m acquire 1 5 1 private:p cfaf0ab623fbf10b345928420608c9b1b765839885b142831e7abaa88e4672b8\nnudge\n";
+    "m acquire 1 5 1 private:p 5e1bd48a4491843b3254d42105e01d9d63e671b84d1e4757b534fee91cb992ea\nnudge\n";
 
 /// What is written where the sync fails.
 const FAILED: &str = "= started\n: restarted\n= refused SaveFault\n= refused SaveFault\n";
 
 /// What is written of the same lines then. The restart took up what was gathered, and the PRIVATE lease with it.
 const AFTER: &str =
-    "= started\nm granted 1 5 1 1 plain private:p#1=0:e3b0c44298fc1c149afbf4c8996fb92427ae41e4649b934ca495991b7852b855 0d05d474b90cf61746e6c3c84925ba6d9af0d1dcfb0f39e85da8838e58e56f1c\n= granted before 1 private:p#1=0\nm granted 1 5 1 1 plain private:p#1=0:e3b0c44298fc1c149afbf4c8996fb92427ae41e4649b934ca495991b7852b855 0d05d474b90cf61746e6c3c84925ba6d9af0d1dcfb0f39e85da8838e58e56f1c\n= nudged\n";
+    "= started\nm granted 1 5 1 1 plain private:p#1=0:e3b0c44298fc1c149afbf4c8996fb92427ae41e4649b934ca495991b7852b855 d508e4fae137f72f102b3bd6d81f56035081d2d41b2e5be8d76742ff7095de00\n= granted before 1 private:p#1=0\nm granted 1 5 1 1 plain private:p#1=0:e3b0c44298fc1c149afbf4c8996fb92427ae41e4649b934ca495991b7852b855 d508e4fae137f72f102b3bd6d81f56035081d2d41b2e5be8d76742ff7095de00\n= nudged\n";
 
 /// A keeper that gathers, and whose next sync fails.
 fn failing_keeper(alloc: Global) -> Result<Gathered<MemoryKeeper>, Fail> {
@@ -38,9 +38,9 @@ fn failing_keeper(alloc: Global) -> Result<Gathered<MemoryKeeper>, Fail> {
 /// A filter with such a keeper. In a box: letting go of it is one step of a proof.
 fn failing_filter(alloc: Global) -> Result<Box<CoordinatorFilter<Gathered<MemoryKeeper>>>, Fail> {
     let keeper = failing_keeper(alloc)?;
-    let key = FarmKey::of(alloc, KEY)?;
+    let keys = Keyring::Farm(FarmKey::of(alloc, KEY)?);
     match Coordinator::start(alloc, keeper) {
-        Ok(coordinator) => Ok(Box::new(alloc, CoordinatorFilter { coordinator, key })?),
+        Ok(coordinator) => Ok(Box::new(alloc, CoordinatorFilter { coordinator, keys })?),
         Err(_) => Err(Fail::from("not started")),
     }
 }

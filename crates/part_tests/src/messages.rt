@@ -2,7 +2,7 @@
 //! the line, are Python's (hmac). `printed/processes.cases` has the texts of messages, and other lines.
 
 use farm_base::Key;
-use farmwire::{FarmKey, LineFault, mac, open};
+use farmwire::{FarmKey, Keyring, LineFault, mac, open};
 use std::alloc::Global;
 use std::test::Fail;
 
@@ -68,8 +68,8 @@ fn macs(rt: HostRuntime) -> Result<(), Fail> {
 
 const KEY: &[u8] = b"the key of a farm in these tests.";
 
-/// A line under the key.
-const LINE: &str = "hello 3 14 92790a8ba26473c2fc2bc7c54f3b35e4010cc28920ac77993e84f774cbea5285";
+/// A line under the key that is made of it for node 3.
+const LINE: &str = "hello 3 14 bd0d71b49f69525b09b0cdc7cd49a5f81f690a8c325242d03d58cc683e0f7f6b";
 
 /// The line, of which one bit of this byte was turned.
 fn damaged(alloc: Global, index: usize) -> Result<Vec<u8>, Fail> {
@@ -79,17 +79,17 @@ fn damaged(alloc: Global, index: usize) -> Result<Vec<u8>, Fail> {
 }
 
 /// Whether the line is refused then.
-fn is_refused(alloc: Global, key: &FarmKey, index: usize) -> Result<bool, Fail> {
+fn is_refused(alloc: Global, keys: &Keyring, index: usize) -> Result<bool, Fail> {
     let line = damaged(alloc, index)?;
-    Ok(matches!(open(alloc, key, &line), Err(LineFault::BadMac)))
+    Ok(matches!(open(alloc, keys, &line), Err(LineFault::BadMac)))
 }
 
 #[test]
 fn turned_bits(rt: HostRuntime) -> Result<(), Fail> {
-    let key = FarmKey::of(rt.alloc(), KEY)?;
-    assert!(rt; open(rt.alloc(), &key, LINE.as_bytes()).is_ok());
+    let keys = Keyring::Farm(FarmKey::of(rt.alloc(), KEY)?);
+    assert!(rt; open(rt.alloc(), &keys, LINE.as_bytes()).is_ok());
     for index in 0..LINE.len() {
-        assert!(rt; is_refused(rt.alloc(), &key, index)?, "{index}");
+        assert!(rt; is_refused(rt.alloc(), &keys, index)?, "{index}");
     }
     Ok(())
 }

@@ -20,7 +20,7 @@ pub enum Process<'a> {
 const COORDINATOR_LINES: &str =
     "Prints `= started`, and then the answer to each line of the standard input, up to its end: lines `m SEALED` to be sent, \
 facts `: ..`, and last `= ` with what was done. A line is one of
-  m SEALED     what a node says, with its MAC under the farm's key
+  m SEALED     what a node says, with its MAC under the key of this node
   withdraw T   ends the lease of this ticket
   retire N     hears this node no more
   prune SLOT   empties this slot
@@ -52,7 +52,8 @@ fn place_arg<'a>(
 pub fn coordinator_command<'a>(alloc: Global) -> Result<clap::Command<'a>, AllocError> {
     let record =
         "The file of its record, made where it isn't there; a log and a lock stand beside it";
-    let key = "The file of the farm's key, of 32 bytes or more: the same for all processes";
+    let key =
+        "The file of the farm's key, of 32 bytes or more, of which the key of each node is made";
     clap::Command::new(alloc, "coordinator")
         .about("Is the coordinator of a farm, whose nodes' lines come on the standard input")
         .after_help(COORDINATOR_LINES)
@@ -64,7 +65,7 @@ pub fn coordinator_command<'a>(alloc: Global) -> Result<clap::Command<'a>, Alloc
 const NODE_LINES: &str =
     "Prints `= life L` behind its greeting, and then the answer to each line of the standard input, up to its end: lines \
 `m SEALED` to be sent, facts `: ..`, and last `= ` with what was done. A line is one of
-  m SEALED               what another process says, with its MAC under the farm's key
+  m SEALED               what another process says, with its MAC under the key of this node, or a dash where it is of a content
   ask [ro=]FOLDER..      asks for a lease of these folders
   tenure FOLDER          asks for a lease under which many executions use a SHARED folder
   begin T                the execution begins under the lease of this ticket
@@ -93,7 +94,7 @@ pub fn node_command<'a>(alloc: Global) -> Result<clap::Command<'a>, AllocError> 
     let nodes = "The greatest number of a node that the farm will have";
     let store =
         "The folder of its contents and its life, made where it isn't there; a lock stands beside it";
-    let key = "The file of the farm's key, of 32 bytes or more: the same for all processes";
+    let key = "The file of the key of this node, which is made of the farm's: 64 digits";
     clap::Command::new(alloc, "node")
         .about("Is a node of a farm, whose agent's lines come on the standard input")
         .after_help(NODE_LINES)

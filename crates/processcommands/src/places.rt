@@ -19,7 +19,7 @@ pub struct NodePlace<'a> {
     pub nodes: u32,
     /// The folder of its contents and its life. Its lock stands beside it, with `.lock` behind its name.
     pub store: &'a str,
-    /// The farm's key.
+    /// The key of this node.
     pub key: &'a str,
 }
 

@@ -6,7 +6,7 @@ use Rattle.services.specs.Served.{Steps, Settling, Answers, Batches, Serves}
 use Rattle.services.specs.Served.Batches.{Begins, Goes_on}
 
 -- steps of one kind of state are steps of another, where the states are seen as those and something of them stays
-pub answers_seen : {S T : Type 0} (steps : Steps S) (others : Steps T) (seen : S → T) (key_of : S → List ℕ) (key : List ℕ)
+pub answers_seen : {S T L : Type 0} (steps : Steps S) (others : Steps T) (seen : S → T) (key_of : S → L) (key : L)
     → ((old : S) (given : Result (List ℕ) Lost) (answer : List ℕ) (new : S) → key_of old ≡ key → steps old given answer new
     → others (seen old) given answer (seen new) × (key_of new ≡ key))
     → (limit : ℕ) (old new : S) (lines answers : List (List ℕ)) → key_of old ≡ key → Answers steps limit old lines answers new
@@ -18,7 +18,7 @@ answers_seen steps others seen key_of key each limit old new (l ∷ lines) (a �
     let step = each old h.0 a h.1 same h.3 in
     (h.0, seen h.1, h.2, step.0, answers_seen steps others seen key_of key each limit h.1 new lines answers step.1 h.4)
 
-pub key_stays : {S : Type 0} (steps : Steps S) (key_of : S → List ℕ) (key : List ℕ)
+pub key_stays : {S L : Type 0} (steps : Steps S) (key_of : S → L) (key : L)
     → ((old : S) (given : Result (List ℕ) Lost) (answer : List ℕ) (new : S) → key_of old ≡ key → steps old given answer new → key_of new ≡ key)
     → (limit : ℕ) (old new : S) (lines answers : List (List ℕ)) → key_of old ≡ key → Answers steps limit old lines answers new → key_of new ≡ key
 key_stays steps key_of key each limit old new [] [] same h = ap key_of (sym h) ∙ same
@@ -28,7 +28,7 @@ key_stays steps key_of key each limit old new (l ∷ lines) (a ∷ answers) same
     key_stays steps key_of key each limit h.1 new lines answers (each old h.0 a h.1 same h.3) h.4
 
 -- and so are batches of them
-batches_seen : {S T : Type 0} (steps : Steps S) (others : Steps T) (settles : Settling S) (settled : Settling T) (seen : S → T) (key_of : S → List ℕ) (key : List ℕ)
+batches_seen : {S T L : Type 0} (steps : Steps S) (others : Steps T) (settles : Settling S) (settled : Settling T) (seen : S → T) (key_of : S → L) (key : L)
     → ((old : S) (given : Result (List ℕ) Lost) (answer : List ℕ) (new : S) → key_of old ≡ key → steps old given answer new
     → others (seen old) given answer (seen new) × (key_of new ≡ key))
     → ((old : S) (s : Settled) (new : S) → settles old s new → settled (seen old) s (seen new) × (key_of new ≡ key_of old))
@@ -50,7 +50,7 @@ batches_seen steps others settles settled seen key_of key each made limit old ne
       last.1 ∙ keyed,
     )
 
-pub serves_seen : {S T : Type 0} (steps : Steps S) (others : Steps T) (settles : Settling S) (settled : Settling T) (seen : S → T) (key_of : S → List ℕ) (key : List ℕ)
+pub serves_seen : {S T L : Type 0} (steps : Steps S) (others : Steps T) (settles : Settling S) (settled : Settling T) (seen : S → T) (key_of : S → L) (key : L)
     → ((old : S) (given : Result (List ℕ) Lost) (answer : List ℕ) (new : S) → key_of old ≡ key → steps old given answer new
     → others (seen old) given answer (seen new) × (key_of new ≡ key))
     → ((old : S) (s : Settled) (new : S) → settles old s new → settled (seen old) s (seen new) × (key_of new ≡ key_of old))

@@ -1,2 +1,3 @@
 mod FarmLemmas
 mod FilterLemmas
+mod UnraidedLemmas

@@ -18,7 +18,8 @@ fn status_of(cause: &Cause) -> u8
 {
     match cause {
         Cause::OutOfMemory => MEMORY,
-        Cause::KeyTooShort | Cause::BadRecord | Cause::LogAlone => REFUSED,
+        Cause::KeyTooShort | Cause::BadKey => REFUSED,
+        Cause::BadRecord | Cause::LogAlone => REFUSED,
         Cause::OtherNode(_) | Cause::BadLife | Cause::LivesSpent => REFUSED,
         Cause::BadListing | Cause::TooLong => REFUSED,
         Cause::Locked | Cause::NotKept | Cause::NotLoaded => FAULT,

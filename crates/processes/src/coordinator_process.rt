@@ -1,6 +1,7 @@
 //! The coordinator as a process.
 ghost use Rattle.std.specs.Prelude.{OnOk, IfSome};
-ghost use Rattle.processes.specs.Farms.{EveryFarmStaysSafe};
+ghost use Rattle.farmwire.specs.Sealed.{key_in};
+ghost use Rattle.processes.specs.Farms.{EveryFarmStaysSafe, EveryRaidedFarmKeepsOut, EveryRaidedFarmStaysSafe};
 ghost use Rattle.processes.specs.Served.{IsServed};
 ghost use Rattle.coordinatorfilter.specs.Rules.{
   IsHonest,
@@ -26,6 +27,7 @@ use coordinatorfilter::laws::{
     a_batch_is_a_run, a_batch_over_files_is_a_run, a_kill_is_a_run, a_power_failure_is_a_run,
     a_start_is_a_run, crashes_over_files_are_runs, ends_and_starts_over_files_are_runs,
 };
+use farmwire::Keyring;
 use processcommands::CoordinatorPlace;
 use saverecord::Keeper;
 use services::serve;
@@ -47,7 +49,7 @@ pub fn serve_coordinator<K: Keeper, R: Read + Drop, W: Write>(
     reader: R,
     writer: &mut W,
 ) -> io::Result<()>
-    ensures served { OnOk result (IfSome (R.remaining reader) (λ text. IsServed K.saving K.loading K.syncing K.kept K.lasting filter.old.key text
+    ensures served { OnOk result (IfSome (R.remaining reader) (λ text. IsServed K.saving K.loading K.syncing K.kept K.lasting (key_in filter.old.keys) text
         filter.old.coordinator filter.new.coordinator (W.contents writer.old) (W.contents writer.new))) }
     // So it is the coordinator of protocol's processes, whatever lines come, and wherever it is killed and started again.
     ensures process { IsHonest K.saving K.loading K.syncing K.kept K.lasting → ABatchIsARun K.saving K.loading K.syncing K.kept K.lasting }
@@ -99,17 +101,19 @@ pub fn run_coordinator<R: Files<File = File> + Input + AllocGlobal, W: Write>(
     ensures started { AStartOverFilesIsARun }
     ensures returned { AReturnOverFilesIsARun }
     ensures crashed { ACrashOverFilesIsARun }
-    // With such nodes as `run_node` it is a farm of which the headline holds.
+    // With such nodes as `run_node` it is a farm of which the headline holds, and what is left of it where nodes were taken over.
     ensures farm { EveryFarmStaysSafe }
+    ensures raided { EveryRaidedFarmStaysSafe }
+    ensures withdrawn { EveryRaidedFarmKeepsOut }
 {
     a_farm_is_safe();
     a_batch_over_files_is_a_run();
     ends_and_starts_over_files_are_runs();
     crashes_over_files_are_runs();
-    let key = key_of(rt, place.key)?;
+    let keys = Keyring::Farm(key_of(rt, place.key)?);
     let _lock = lock_of(rt, place.record)?;
     let coordinator = started(rt, place.record)?;
-    let mut filter = CoordinatorFilter { coordinator, key };
+    let mut filter = CoordinatorFilter { coordinator, keys };
     let answered = answer_input(rt, &mut filter, writer);
     drop(filter);
     answered

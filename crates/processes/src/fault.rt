@@ -9,6 +9,8 @@ pub enum Cause {
     Locked,
     /// The key is too short.
     KeyTooShort,
+    /// The file holds no key of a node.
+    BadKey,
     /// The record, or the log behind it, is damaged, or is one of a newer program.
     BadRecord,
     /// The log stands there without the record that it follows.
@@ -81,7 +83,10 @@ impl ProcessFault {
                 "fault Locked\n{path} is locked: another process has these files. End that one first, or name other files.\n"
             ),
             Cause::KeyTooShort => format!(in alloc;
-                "refused KeyTooShort\n{path} has fewer than 32 bytes. `head -c 32 /dev/urandom >{path}` writes a key; all processes of a farm have the same.\n"
+                "refused KeyTooShort\n{path} has fewer than 32 bytes. `head -c 32 /dev/urandom >{path}` writes the farm's key, for the coordinator; a node has its own, which is made of it.\n"
+            ),
+            Cause::BadKey => format!(in alloc;
+                "refused BadKey\n{path} holds no key of a node: 64 hexadecimal digits, 0 to 9 and a to f. `farm key N` on the coordinator's machine makes that of node N.\n"
             ),
             Cause::BadRecord => format!(in alloc;
                 "refused BadRecord\n{path} or {path}.log is damaged, or was written by a newer program. Neither was changed. `farmctl record --explain {path}` says what is wrong.\n"

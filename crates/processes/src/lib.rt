@@ -14,7 +14,7 @@ mod node_process;
 pub use calls::{carry_out, run};
 pub use coordinator_process::{run_coordinator, serve_coordinator};
 pub use fault::{Cause, ProcessFault};
-pub use files::{key_of, lock_of};
+pub use files::{key_of, lock_of, node_key_of};
 pub use merge_process::{run_merge, write_merge};
 pub use node_process::{run_node, serve_node};
 

@@ -1,14 +1,14 @@
 //! A node as a process.
 ghost use Rattle.std.specs.Prelude.{◌≡◌, ◌-◌, max, OnOk, IfSome};
 ghost use Rattle.nodefilter.specs.Rules.{ABatchIsARun, AKillIsARun, AStartIsARun};
-ghost use Rattle.processes.specs.Farms.{EveryFarmStaysSafe};
+ghost use Rattle.processes.specs.Farms.{EveryFarmStaysSafe, EveryRaidedFarmStaysSafe};
 ghost use Rattle.processes.specs.Served.{IsNodeServed};
 
 use super::LONGEST_LINE;
 use super::fault::{Cause, ProcessFault};
-use super::files::{key_of, lock_of};
+use super::files::{lock_of, node_key_of};
 use super::laws::a_farm_is_safe;
-use farmwire::FarmKey;
+use farmwire::Keyring;
 use names::{Life, NodeId};
 use nodefilter::laws::{a_batch_is_a_run, a_kill_is_a_run, a_start_is_a_run};
 use nodefilter::{Origin, StartFault, Started, start};
@@ -29,11 +29,11 @@ pub fn serve_node<S: Store, R: Read + Drop, W: Write>(
     writer: &mut W,
 ) -> io::Result<()>
     ensures served { OnOk result (IfSome (R.remaining reader) (λ text.
-        IsNodeServed S.kept S.last_life started text (W.contents writer.old) (W.contents writer.new))) }
+        IsNodeServed S.kept S.last_life S.had started text (W.contents writer.old) (W.contents writer.new))) }
     // So it is a node of protocol's processes, whatever lines come, and wherever it is killed and started again.
-    ensures process { ABatchIsARun S.kept S.last_life }
-    ensures killed { AKillIsARun S.kept S.last_life }
-    ensures started { AStartIsARun S.kept S.last_life }
+    ensures process { ABatchIsARun S.kept S.last_life S.had }
+    ensures killed { AKillIsARun S.kept S.last_life S.had }
+    ensures started { AStartIsARun S.kept S.last_life S.had }
 {
     a_batch_is_a_run::<S>();
     a_kill_is_a_run::<S>();
@@ -91,7 +91,7 @@ fn last_before(kept: Life, seconds: u64) -> Life
 fn begun<'a, R: Files + Clock + AllocGlobal + Clone + Drop>(
     rt: &'a R,
     place: NodePlace<'_>,
-    key: FarmKey,
+    keys: Keyring,
 ) -> Result<Started<FileStore<'a, R>>, ProcessFault> {
     let alloc = rt.alloc();
     let (store, found) = match open_store(rt, alloc, place.store, place.node) {
@@ -102,7 +102,7 @@ fn begun<'a, R: Files + Clock + AllocGlobal + Clone + Drop>(
     let origin = Origin {
         me: place.node,
         nodes: place.nodes,
-        key,
+        keys,
         store,
         contents: found.contents,
         skipped: found.wrong,
@@ -134,12 +134,13 @@ pub fn run_node<R: Files<File = File> + Input + Clock + AllocGlobal + Clone + Dr
     place: NodePlace<'_>,
     writer: &mut W,
 ) -> Result<(), ProcessFault>
-    // With such a coordinator as `run_coordinator` it is a farm of which the headline holds.
+    // With such a coordinator as `run_coordinator` it is a farm of which the headline holds, and what is left of it where nodes were taken over.
     ensures farm { EveryFarmStaysSafe }
+    ensures raided { EveryRaidedFarmStaysSafe }
 {
     a_farm_is_safe();
-    let key = key_of(rt, place.key)?;
+    let keys = Keyring::Node(place.node, node_key_of(rt, place.key)?);
     let _lock = lock_of(rt, place.store)?;
-    let started = begun(rt, place, key)?;
+    let started = begun(rt, place, keys)?;
     answer_input(rt, started, writer)
 }

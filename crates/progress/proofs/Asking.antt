@@ -26,7 +26,7 @@ use Rattle.progress.specs.Progress.{AreEvents, withdrawals, is_open, EveryOpenAs
 use Rattle.progress.proofs.Reaching.{run_more, every_ask_can_be_answered}
 use Rattle.progress.proofs.Lives.{heard_all, heard_start}
 
-in_nth : {A : Type 0} (xs : List A) (x : A) → In x xs → (number : ℕ) × (nth xs number ≡ Some x)
+pub in_nth : {A : Type 0} (xs : List A) (x : A) → In x xs → (number : ℕ) × (nth xs number ≡ Some x)
 in_nth [] x i = absurd i
 in_nth (y ∷ ys) x (inl e) = (1, ap Some (sym e))
 in_nth (y ∷ ys) x (inr i) = (let r = in_nth ys x i in later r.0 r.1)
@@ -35,7 +35,7 @@ in_nth (y ∷ ys) x (inr i) = (let r = in_nth ys x i in later r.0 r.1)
     later zero e = none_some x e
     later (suc k) e = (suc (suc k), e)
 
-new_nth : {A : Type 0} (xs ys : List A) (x : A) → In x ys → (number : ℕ) × (length xs < number) × (nth (xs ++ ys) number ≡ Some x)
+pub new_nth : {A : Type 0} (xs ys : List A) (x : A) → In x ys → (number : ℕ) × (length xs < number) × (nth (xs ++ ys) number ≡ Some x)
 new_nth [] ys x i = (let r = in_nth ys x i in first r.0 r.1)
   where
     first : (number : ℕ) → nth ys number ≡ Some x → (number : ℕ) × (0 < number) × (nth ys number ≡ Some x)
@@ -47,16 +47,16 @@ new_nth (z ∷ xs) ys x i = (let r = new_nth xs ys x i in later r.0 r.1 r.2)
     later zero le e = none_some x e
     later (suc k) le e = (suc (suc k), omega arith, e)
 
-length_more : {A : Type 0} (xs ys : List A) → length xs ≤ length (xs ++ ys)
+pub length_more : {A : Type 0} (xs ys : List A) → length xs ≤ length (xs ++ ys)
 length_more [] ys = omega arith
 length_more (x ∷ xs) ys = (let r = length_more xs ys in omega arith)
 
-not_below : (a b : ℕ) → b ≤ a → nat_lt a b ≡ false
+pub not_below : (a b : ℕ) → b ≤ a → nat_lt a b ≡ false
 not_below a b le = grind (arith, nat_tests)
 
 -- ---- what stays
 
-record StaysAs (s later : Farm) : Type 0 where
+pub record StaysAs (s later : Farm) : Type 0 where
   pub nodes : later.nodes ≡ s.nodes
   pub size : later.size ≡ s.size
 
@@ -66,7 +66,7 @@ settled_same true None w s = record { nodes = refl; size = refl }
 settled_same true (Some Old) w s = record { nodes = refl; size = refl }
 settled_same true (Some New) w s = record { nodes = refl; size = refl }
 
-coordinated_same : (d : Bool) (r : Result Work CoordRefusal) (s : Farm) → StaysAs s (coordinated d r s).farm
+pub coordinated_same : (d : Bool) (r : Result Work CoordRefusal) (s : Farm) → StaysAs s (coordinated d r s).farm
 coordinated_same true r s = record { nodes = refl; size = refl }
 coordinated_same false (Err e) s = record { nodes = refl; size = refl }
 coordinated_same false (Ok w) s = settled_same w.changed s.armed w s
@@ -80,7 +80,7 @@ module _ (sha : List ℕ → Digest) (k : Limits) where
       let b = withdrawals_same ts (step sha k s (Withdraw t)).farm in
       record { nodes = b.nodes ∙ a.nodes; size = b.size ∙ a.size }
 
-  delivery_same : (s : Farm) (number : ℕ) (y : ToCoord) → nth s.pool number ≡ Some (Said y) → StaysAs s (step sha k s (Deliver number)).farm
+  pub delivery_same : (s : Farm) (number : ℕ) (y : ToCoord) → nth s.pool number ≡ Some (Said y) → StaysAs s (step sha k s (Deliver number)).farm
   unfolding step
   delivery_same s number y e = subst (λ o. StaysAs s (delivered sha k o s).farm) (sym e) (coordinated_same s.down (Ok (handled k y (begin_work s.ledger))) s)
 
@@ -127,36 +127,36 @@ module _ (sha : List ℕ → Digest) (k : Limits) where
 
   -- ---- the answer
 
-  Knows : Farm → NodeId → Ask → Type 0
+  unfoldable pub Knows : Farm → NodeId → Ask → Type 0
   Knows s who ask = (kept : KeptAsk) × (nth (s.nodes who.0).asks ask.0 ≡ Some kept) × (is_open kept ≡ false)
 
-  granted_known : (s : Farm) (number : ℕ) (g : Grant) (wants : List Want) → nth s.pool number ≡ Some (Told (told.Granted g)) → is_node s g.node ≡ true → (s.nodes g.node.0).spent ≡ false → g.life ≡ (s.nodes g.node.0).life → nth (s.nodes g.node.0).asks g.ask.0 ≡ Some (Open wants false) → Knows (step sha k s (Deliver number)).farm g.node g.ask
+  pub granted_known : (s : Farm) (number : ℕ) (g : Grant) (wants : List Want) (tenure : Bool) → nth s.pool number ≡ Some (Told (told.Granted g)) → is_node s g.node ≡ true → (s.nodes g.node.0).spent ≡ false → g.life ≡ (s.nodes g.node.0).life → nth (s.nodes g.node.0).asks g.ask.0 ≡ Some (Open wants tenure) → Knows (step sha k s (Deliver number)).farm g.node g.ask
   unfolding step Knows
-  granted_known s number g wants e there up life here =
+  granted_known s number g wants tenure e there up life here =
       let x : Node = s.nodes g.node.0 in
       let alive : eqb g.life.0 x.life.0 ≡ true = subst (λ (l : Life). eqb g.life.0 l.0 ≡ true) life (eqb_same g.life.0) in
-      rw (e, there, up, alive, here) (Holding wants g false, ap (λ (z : Node). nth z.asks g.ask.0) (put_same g.node.0 _ s.nodes) ∙ nth-set_same x.asks g.ask.0 (Holding wants g false) (Open wants false) here, refl)
+      rw (e, there, up, alive, here) (Holding wants g false, ap (λ (z : Node). nth z.asks g.ask.0) (put_same g.node.0 _ s.nodes) ∙ nth-set_same x.asks g.ask.0 (Holding wants g false) (Open wants tenure) here, refl)
 
-  denied_known : (s : Farm) (number : ℕ) (n : NodeId) (l : Life) (a : Ask) (why : Why) (wants : List Want) → nth s.pool number ≡ Some (Told (told.Denied n l a why)) → is_node s n ≡ true → (s.nodes n.0).spent ≡ false → l ≡ (s.nodes n.0).life → nth (s.nodes n.0).asks a.0 ≡ Some (Open wants false) → Knows (step sha k s (Deliver number)).farm n a
+  pub denied_known : (s : Farm) (number : ℕ) (n : NodeId) (l : Life) (a : Ask) (why : Why) (wants : List Want) (tenure : Bool) → nth s.pool number ≡ Some (Told (told.Denied n l a why)) → is_node s n ≡ true → (s.nodes n.0).spent ≡ false → l ≡ (s.nodes n.0).life → nth (s.nodes n.0).asks a.0 ≡ Some (Open wants tenure) → Knows (step sha k s (Deliver number)).farm n a
   unfolding step Knows
-  denied_known s number n l a why wants e there up life here =
+  denied_known s number n l a why wants tenure e there up life here =
       let x : Node = s.nodes n.0 in
       let alive : eqb l.0 x.life.0 ≡ true = subst (λ (m : Life). eqb l.0 m.0 ≡ true) life (eqb_same l.0) in
-      rw (e, there, up, alive, here) (Over (how.Denied why), ap (λ (z : Node). nth z.asks a.0) (put_same n.0 _ s.nodes) ∙ nth-set_same x.asks a.0 (Over (how.Denied why)) (Open wants false) here, refl)
+      rw (e, there, up, alive, here) (Over (how.Denied why), ap (λ (z : Node). nth z.asks a.0) (put_same n.0 _ s.nodes) ∙ nth-set_same x.asks a.0 (Over (how.Denied why)) (Open wants tenure) here, refl)
 
-  answer_known : (s : Farm) (p : Parked) (base sent : List Message) (wants : List Want) → s.pool ≡ base ++ sent → IsAnswered p sent → is_node s p.node ≡ true → (s.nodes p.node.0).spent ≡ false → p.life ≡ (s.nodes p.node.0).life → nth (s.nodes p.node.0).asks p.ask.0 ≡ Some (Open wants false) → (last : ℕ) × (length base < last) × Knows (step sha k s (Deliver last)).farm p.node p.ask
-  answer_known s p base sent wants pool (inl (g, i, n, l, a)) there up life here =
+  pub answer_known : (s : Farm) (p : Parked) (base sent : List Message) (wants : List Want) (tenure : Bool) → s.pool ≡ base ++ sent → IsAnswered p sent → is_node s p.node ≡ true → (s.nodes p.node.0).spent ≡ false → p.life ≡ (s.nodes p.node.0).life → nth (s.nodes p.node.0).asks p.ask.0 ≡ Some (Open wants tenure) → (last : ℕ) × (length base < last) × Knows (step sha k s (Deliver last)).farm p.node p.ask
+  answer_known s p base sent wants tenure pool (inl (g, i, n, l, a)) there up life here =
       let r = new_nth base sent (Told (told.Granted g)) i in
-      let known = granted_known s r.0 g wants (subst (λ (l : List Message). nth l r.0 ≡ Some (Told (told.Granted g))) (sym pool) r.2) (subst (λ (z : NodeId). is_node s z ≡ true) (sym n) there) (subst (λ (z : NodeId). (s.nodes z.0).spent ≡ false) (sym n) up)
+      let known = granted_known s r.0 g wants tenure (subst (λ (l : List Message). nth l r.0 ≡ Some (Told (told.Granted g))) (sym pool) r.2) (subst (λ (z : NodeId). is_node s z ≡ true) (sym n) there) (subst (λ (z : NodeId). (s.nodes z.0).spent ≡ false) (sym n) up)
       (l ∙ subst (λ (z : NodeId). p.life ≡ (s.nodes z.0).life) (sym n) life)
-      (subst (λ (z : NodeId). nth (s.nodes z.0).asks g.ask.0 ≡ Some (Open wants false)) (sym n) (subst (λ (z : Ask). nth (s.nodes p.node.0).asks z.0 ≡ Some (Open wants false)) (sym a) here)) in
+      (subst (λ (z : NodeId). nth (s.nodes z.0).asks g.ask.0 ≡ Some (Open wants tenure)) (sym n) (subst (λ (z : Ask). nth (s.nodes p.node.0).asks z.0 ≡ Some (Open wants tenure)) (sym a) here)) in
       (r.0, r.1, subst (λ (z : NodeId). Knows (step sha k s (Deliver r.0)).farm z p.ask) n (subst (λ (z : Ask). Knows (step sha k s (Deliver r.0)).farm g.node z) a known))
-  answer_known s p base sent wants pool (inr (why, i)) there up life here =
+  answer_known s p base sent wants tenure pool (inr (why, i)) there up life here =
       let r = new_nth base sent (Told (told.Denied p.node p.life p.ask why)) i in
-      (r.0, r.1, denied_known s r.0 p.node p.life p.ask why wants (subst (λ (l : List Message). nth l r.0 ≡ Some (Told (told.Denied p.node p.life p.ask why))) (sym pool) r.2) there up life here)
+      (r.0, r.1, denied_known s r.0 p.node p.life p.ask why wants tenure (subst (λ (l : List Message). nth l r.0 ≡ Some (Told (told.Denied p.node p.life p.ask why))) (sym pool) r.2) there up life here)
 
 -- no life that the coordinator has heard of is above its node's
-lives_below : EveryScheduleIsSafe → (sha : List ℕ → Digest) (k : Limits) → IsFarm sha k → (size : ℕ) (events : List Event) (n : ℕ) → (scheduled sha k size events).ledger.lives n ≤ ((scheduled sha k size events).nodes n).life.0
+pub lives_below : EveryScheduleIsSafe → (sha : List ℕ → Digest) (k : Limits) → IsFarm sha k → (size : ℕ) (events : List Event) (n : ℕ) → (scheduled sha k size events).ledger.lives n ≤ ((scheduled sha k size events).nodes n).life.0
 lives_below safes sha k is_farm size events n =
     let s : Farm = scheduled sha k size events in
     let a = safes sha k is_farm size events in
@@ -182,7 +182,7 @@ every_open_ask_can_be_answered opens farms safes means sha k is_farm size events
     let b = withdrawals_same sha k f.0 (step sha k t (Deliver m.0)).farm in
     let node : v.nodes who.0 ≡ x = ap (λ (g : ℕ → Node). g who.0) (b.nodes ∙ d.nodes) ∙ r.node in
     let count : v.size ≡ s.size = b.size ∙ d.size ∙ r.size in
-    let known = answer_known sha k v p t.pool f.1.sent wants f.1.sends f.1.answered
+    let known = answer_known sha k v p t.pool f.1.sent wants false f.1.sends f.1.answered
     (there v count) (subst (λ (z : Node). z.spent ≡ false) (sym node) is.runs) (sym (ap (λ (z : Node). z.life) node)) (subst (λ (z : Node). nth z.asks ask.0 ≡ Some (Open wants false)) (sym node) is.asks) in (
       m.0,
       f.0,

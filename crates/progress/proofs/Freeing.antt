@@ -17,14 +17,14 @@ use Rattle.progress.proofs.Progressing.{filter_less, some_in, AreHeldUp, waits_f
 -- ---- who holds what a lease waits for
 
 -- a want of a tenure's lease is SHARED
-tenure_shared : (wants : List Want) (w : Want) → In w (leased_wants true wants) → wants_shared w ≡ true
+pub tenure_shared : (wants : List Want) (w : Want) → In w (leased_wants true wants) → wants_shared w ≡ true
 tenure_shared wants w i = (from_filter wants_shared w wants i).1
 
-other_shared : (wants : List Want) (w : Want) → In w (leased_wants false wants) → wants_shared w ≡ false
+pub other_shared : (wants : List Want) (w : Want) → In w (leased_wants false wants) → wants_shared w ≡ false
 other_shared wants w i = not-true (wants_shared w) (from_filter (λ (w : Want). not (wants_shared w)) w wants i).1
 
 -- a lease that has a slot of another folder is no tenure
-no_tenure : (h : Lease) (wants : List Want) (w : Want) → map want_of h.slots ≡ leased_wants h.tenure wants → has_slot h.slots (only_slot w.folder) ≡ true → wants_shared w ≡ false → h.tenure ≡ false
+pub no_tenure : (h : Lease) (wants : List Want) (w : Want) → map want_of h.slots ≡ leased_wants h.tenure wants → has_slot h.slots (only_slot w.folder) ≡ true → wants_shared w ≡ false → h.tenure ≡ false
 no_tenure h wants w same has other = elim (cases_Bool h.tenure) [
   | inr f ↦ f
   | inl t ↦

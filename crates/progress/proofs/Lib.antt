@@ -3,3 +3,16 @@ mod Freeing
 mod Reaching
 mod Lives
 mod Asking
+mod Keeping
+mod Giving
+mod Ending
+mod Witnessing
+mod Going
+mod Ends
+mod Queueing
+mod Fairness
+mod Calm
+mod Running
+mod Tenures
+mod TenureEnds
+mod TenureAsks

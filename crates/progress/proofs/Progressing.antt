@@ -30,11 +30,11 @@ use Rattle.progress.specs.Progress.{release_of, size_of, WaitsForLease, given_ba
 
 -- ---- lists
 
-length_push : {A : Type 0} (xs : List A) (x : A) → length (xs ++ x ∷ []) ≡ length xs + 1
+pub length_push : {A : Type 0} (xs : List A) (x : A) → length (xs ++ x ∷ []) ≡ length xs + 1
 length_push [] x = refl
 length_push (y ∷ ys) x = (let r = length_push ys x in omega arith)
 
-filter_le : {A : Type 0} (test : A → Bool) (xs : List A) → length (filter test xs) ≤ length xs
+pub filter_le : {A : Type 0} (test : A → Bool) (xs : List A) → length (filter test xs) ≤ length xs
 filter_le test [] = omega arith
 filter_le test (x ∷ xs) = elim (cases_Bool (test x)) [
   | inl t ↦ rw t (let r = filter_le test xs in omega arith)
@@ -53,13 +53,13 @@ pub some_in : {A : Type 0} (xs : List A) (x : A) → In x xs → 1 ≤ length xs
 some_in [] x i = absurd i
 some_in (y ∷ ys) x i = omega arith
 
-lt_other : (a b : ℕ) → a < b → eqb a b ≡ false
+pub lt_other : (a b : ℕ) → a < b → eqb a b ≡ false
 lt_other a b h = grind (arith, nat_tests)
 
-not_older : (a b : ℕ) → a ≡ b → nat_lt b a ≡ false
+pub not_older : (a b : ℕ) → a ≡ b → nat_lt b a ≡ false
 not_older a b h = grind (arith, nat_tests)
 
-not_newer : (a b : ℕ) → a ≡ b → nat_lt a b ≡ false
+pub not_newer : (a b : ℕ) → a ≡ b → nat_lt a b ≡ false
 not_newer a b h = grind (arith, nat_tests)
 
 -- ---- held up
@@ -72,7 +72,7 @@ abbrev pub AreHeldUp : Ledger → Type 0
 AreHeldUp q = (p : Parked) → In p q.parked → is_held_up q p ≡ true
 
 -- what is leased in the first is leased in the second, and the old home is the same
-record LeasesMore (q q' : Ledger) : Type 0 where
+pub record LeasesMore (q q' : Ledger) : Type 0 where
   pub home : q'.old_home ≡ q.old_home
   pub leased : (s : Slot) → some_lease q.live s ≡ true → some_lease q'.live s ≡ true
 
@@ -123,7 +123,7 @@ picks_held false false true d e = refl
 picks_held false false false true e = (let bad : false ≡ true = e in absurd (cc bad))
 picks_held false false false false e = (let bad : false ≡ true = e in absurd (cc bad))
 
-nobody : (p : Parked) (q : Ledger) → q.old_home ≡ None → elsewhere q p ≡ false
+pub nobody : (p : Parked) (q : Ledger) → q.old_home ≡ None → elsewhere q p ≡ false
 nobody p q none = subst (λ (o : Option NodeId). (p.tenure && another o p.node) ≡ false) (sym none) (and_false p.tenure)
   where
     and_false : (b : Bool) → (b && false) ≡ false
@@ -145,7 +145,7 @@ module _ (k : Limits) where
   carried_more (Deny why) p w = more_same w.ledger
   carried_more Wait p w = more_same w.ledger
 
-  tried_more : (p : Parked) (w : Work) → LeasesMore w.ledger (tried k p w).ledger
+  pub tried_more : (p : Parked) (w : Work) → LeasesMore w.ledger (tried k p w).ledger
   unfolding tried
   tried_more p w = carried_more (decision k w.ledger p) p w
 
@@ -159,7 +159,7 @@ module _ (k : Limits) where
       let wants : List Want = leased_wants p.tenure p.wants in
       picks_held (elsewhere q p) (all_taken k.instances (is_free q) wants) (busy (is_leased q) wants) (not (nat_lt q.last k.greatest)) e
 
-  stays_held : (p : Parked) (w : Work) → stays k p w ≡ true → is_held_up w.ledger p ≡ true
+  pub stays_held : (p : Parked) (w : Work) → stays k p w ≡ true → is_held_up w.ledger p ≡ true
   unfolding stays
   stays_held p w t = waits_held w.ledger p t
 
@@ -179,7 +179,7 @@ module _ (k : Limits) where
   unfolding retried
   retried_held w p i = stay_held w.ledger.parked w p i
 
-  retried_home : (w : Work) → (retried k w).ledger.old_home ≡ w.ledger.old_home
+  pub retried_home : (w : Work) → (retried k w).ledger.old_home ≡ w.ledger.old_home
   unfolding retried
   retried_home w = (try_more w.ledger.parked w).home
 
@@ -234,7 +234,7 @@ module _ (k : Limits) where
   unfolding tried
   tried_sent p w m i = carried_sent (decision k w.ledger p) p w m i
 
-  try_sent : (ps : List Parked) (w : Work) (m : FromCoord) → In m w.sends → In m (try_all k ps w).sends
+  pub try_sent : (ps : List Parked) (w : Work) (m : FromCoord) → In m w.sends → In m (try_all k ps w).sends
   try_sent [] w m i = i
   try_sent (p ∷ ps) w m i = try_sent ps (tried k p w) m (tried_sent p w m i)
 
@@ -244,11 +244,11 @@ module _ (k : Limits) where
   one_served (Deny why) p w e = inr (why, in_right _ w.sends _ (inl refl))
   one_served Wait p w e = (let bad : true ≡ false = e in cc)
 
-  tried_served : (p : Parked) (w : Work) → stays k p w ≡ false → Served p (tried k p w).sends
+  pub tried_served : (p : Parked) (w : Work) → stays k p w ≡ false → Served p (tried k p w).sends
   unfolding tried stays
   tried_served p w t = one_served (decision k w.ledger p) p w t
 
-  later_served : (ps : List Parked) (w : Work) (p : Parked) → Served p w.sends → Served p (try_all k ps w).sends
+  pub later_served : (ps : List Parked) (w : Work) (p : Parked) → Served p w.sends → Served p (try_all k ps w).sends
   later_served ps w p (inl (g, i, n, l, a)) = inl (g, try_sent ps w (told.Granted g) i, n, l, a)
   later_served ps w p (inr (why, i)) = inr (why, try_sent ps w (told.Denied p.node p.life p.ask why) i)
 
@@ -276,7 +276,7 @@ module _ (k : Limits) where
   under_it (g ∷ live) h all (inl e) = (let same : eqb g.ticket.0 h.ticket.0 ≡ true = subst (λ (z : Lease). eqb z.ticket.0 h.ticket.0 ≡ true) e (eqb_same h.ticket.0) in rw same (ap Some (sym e)))
   under_it (g ∷ live) h all (inr i) = (let other : eqb g.ticket.0 h.ticket.0 ≡ false = lt_other g.ticket.0 h.ticket.0 (all.0 h i).ticket in rw other (under_it live h all.1 i))
 
-  ended : Lease → Ledger → Work
+  unfoldable pub ended : Lease → Ledger → Work
   ended h q = notes (note.Released h.ticket) (retried k (ends h (begin_work q)))
 
   released_is : (h : Lease) (b : Bool) (o : Option Lease) (w : Work) → b ≡ true → o ≡ Some h → released k b h.ticket o w ≡ notes (note.Released h.ticket) (retried k (ends h w))
@@ -286,7 +286,7 @@ module _ (k : Limits) where
   may h = both_true (eqb h.node.0 h.node.0) (eqb h.life.0 h.life.0) (eqb_same h.node.0) (eqb_same h.life.0)
 
   module _ (top : ℕ) where
-    given_is : (h : Lease) (q : Ledger) → IsLawful top q → In h q.live → given_back k h q ≡ ended h q
+    pub given_is : (h : Lease) (q : Ledger) → IsLawful top q → In h q.live → given_back k h q ≡ ended h q
     unfolding handled ended
     given_is h q lawful i =
         let asker = (lawful.core.holders h i).asker in
@@ -369,7 +369,7 @@ module _ (k : Limits) where
             ];
           }
 
-      -- a parked ask is answered, where so many may still be given back
+      -- a parked ask is answered, where at most this many leases and parked asks are left
       abbrev Answered : Ledger → Parked → Type 0
       Answered before p = (count : ℕ) × (after : Ledger) × (sends : List FromCoord) × Gives_back k before count after sends × IsAnswered p (map Told sends)
 
@@ -390,7 +390,7 @@ module _ (k : Limits) where
 
 -- ---- in the farm of a schedule each parked ask is held up
 
-recalling : (b : Bool) (o : Option Lease) (p : Parked) (w : Work) → o ≡ find (holds_wanted p) w.ledger.live → (recalls b p w).ledger ≡ w.ledger
+pub recalling : (b : Bool) (o : Option Lease) (p : Parked) (w : Work) → o ≡ find (holds_wanted p) w.ledger.live → (recalls b p w).ledger ≡ w.ledger
 recalling false o p w e = refl
 recalling true o p w e = ap (λ (x : Option Lease). (recall x w).ledger) (sym e) ∙ by o
   where
@@ -412,7 +412,7 @@ parks_held p w v same held here r i =
     subst (λ (q : Ledger). is_held_up q r ≡ true) (sym same) (elim (in_append r w.ledger.parked (p ∷ []) i) [ inl j ↦ held r j | inr j ↦ subst (λ z. is_held_up w.ledger z ≡ true) (sym (in_one r p j)) here ])
 
 module _ (k : Limits) where
-  abbrev H : Work → Type 0
+  abbrev pub H : Work → Type 0
   H w = AreHeldUp w.ledger
 
   decided_held : (d : Decision) (p : Parked) (w : Work) → decision k w.ledger p ≡ d → H w → H (decided k d p w)
@@ -447,7 +447,7 @@ module _ (k : Limits) where
   answering_held n l (Commit t news) w held = committing_held (may_commit n l news (lease_under w.ledger.live t)) n l t news w held
   answering_held n l (Release t) w held = released_held (may_release n l (lease_under w.ledger.live t)) t (lease_under w.ledger.live t) w held
 
-  newer_held : (n : NodeId) (l : Life) (w : Work) → H w → H (newer_life k n l w)
+  pub newer_held : (n : NodeId) (l : Life) (w : Work) → H w → H (newer_life k n l w)
   unfolding newer_life
   newer_held n l w held = elim (cases_Bool (list_any (is_older n l) w.ledger.live || is_home n w.ledger.old_home)) [
     | inl t ↦ rw t (retried_held k (sees n l w))
@@ -496,10 +496,10 @@ module _ (k : Limits) where
       by true = keeps w.ledger (prunes k s w).ledger (record { home = refl; leased = λ x e. e }) (λ p i. i) held
       by false = tt
 
-  nudges_ledger : (g : Lease) (w : Work) → (nudges k g w).ledger ≡ w.ledger
+  pub nudges_ledger : (g : Lease) (w : Work) → (nudges k g w).ledger ≡ w.ledger
   nudges_ledger g w = elim (cases_Bool (is_awaited w.ledger.parked g)) [ inl t ↦ rw t refl | inr t ↦ rw t refl ]
 
-  nudge_ledger : (gs : List Lease) (w : Work) → (nudge_all k gs w).ledger ≡ w.ledger
+  pub nudge_ledger : (gs : List Lease) (w : Work) → (nudge_all k gs w).ledger ≡ w.ledger
   nudge_ledger [] w = refl
   nudge_ledger (g ∷ gs) w = nudge_ledger gs (nudges k g w) ∙ nudges_ledger g w
 

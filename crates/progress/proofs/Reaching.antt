@@ -20,7 +20,7 @@ use Rattle.progress.proofs.Progressing.{Served, served_is}
 use Rattle.progress.proofs.Freeing.{IsAfter, settles, more_pool, answered_right, every_parked_ask_can_be_freed}
 
 -- the ask is parked, under its name, or served
-abbrev Met : Limits → Parked → Work → Type 0
+abbrev pub Met : Limits → Parked → Work → Type 0
 Met k p w = (is_parked w.ledger.parked p.node p.life p.ask ≡ true) ⊎ Served k p w.sends
 
 module _ (k : Limits) (p : Parked) where
@@ -42,13 +42,13 @@ module _ (k : Limits) (p : Parked) where
   acquiring_met None true w e f = inl f
   acquiring_met None false w e f = decided_met (decision k w.ledger p) w
 
-  abbrev saying : ToCoord
+  abbrev pub saying : ToCoord
   saying = record { node = p.node; life = p.life; request = Acquire p.ask p.wants p.tenure }
 
   answering_met : (w : Work) → Met k p (acquiring k (lease_of w.ledger.live p.node p.life p.ask) (is_parked w.ledger.parked p.node p.life p.ask) p w)
   answering_met w = acquiring_met (lease_of w.ledger.live p.node p.life p.ask) (is_parked w.ledger.parked p.node p.life p.ask) w refl refl
 
-  handled_met : (w : Work) → w.ledger.gone p.node.0 ≡ false → nat_lt p.life.0 (w.ledger.lives p.node.0) ≡ false → Met k p (handled k saying w)
+  pub handled_met : (w : Work) → w.ledger.gone p.node.0 ≡ false → nat_lt p.life.0 (w.ledger.lives p.node.0) ≡ false → Met k p (handled k saying w)
   unfolding handled
   handled_met w here young = rw (here, young) (elim (cases_Bool (nat_lt (w.ledger.lives p.node.0) p.life.0)) [
     | inl newer ↦ rw newer (answering_met (newer_life k p.node p.life w))
@@ -70,7 +70,7 @@ pub run_more : (sha : List ℕ → Digest) (k : Limits) (xs ys : List Event) (s 
 run_more sha k [] ys s = refl
 run_more sha k (x ∷ xs) ys s = run_more sha k xs ys (step sha k s x).farm
 
-delivery_is : (sha : List ℕ → Digest) (k : Limits) (s : Farm) (number : ℕ) (y : ToCoord) → nth s.pool number ≡ Some (Said y) → s.down ≡ false → s.armed ≡ None → IsAfter k sha 0 s (handled k y (begin_work s.ledger)) (step sha k s (Deliver number)).farm
+pub delivery_is : (sha : List ℕ → Digest) (k : Limits) (s : Farm) (number : ℕ) (y : ToCoord) → nth s.pool number ≡ Some (Said y) → s.down ≡ false → s.armed ≡ None → IsAfter k sha 0 s (handled k y (begin_work s.ledger)) (step sha k s (Deliver number)).farm
 unfolding step
 delivery_is sha k s number y e up safe =
     let w : Work = handled k y (begin_work s.ledger) in

@@ -1,9 +1,10 @@
 //! The theorems of progress.
-ghost use Rattle.progress.specs.Progress.{EveryAskCanBeAnswered, EveryOpenAskCanBeAnswered, EveryParkedAskCanBeAnswered, EveryParkedAskCanBeFreed, GivingBackGoesOn};
+ghost use Rattle.progress.specs.Fair.{EveryLeaseEnds, EveryOpenAskIsAnswered, OneFolderIsOne, ThereAreFairRuns};
+ghost use Rattle.progress.specs.Progress.{AnAcceptedAskWaits, EveryAskCanBeAnswered, EveryLeaseCanBeGivenBack, EveryOpenAskCanBeAnswered, EveryOpenAskIsAnsweredByGivingBack, EveryOpenTenureIsAnsweredByGivingBack, EveryParkedAskCanBeAnswered, EveryParkedAskCanBeFreed, EveryTenureCanBeGivenBack, GivingBackGoesOn, YoungNodesAreUp};
 
 use protocol::laws::{
-    every_farm_stays_lawful, every_ledger_stays_lawful, every_schedule_is_safe,
-    every_schedule_means,
+    a_message_touches_only_its_own, every_event_keeps_the_farm, every_farm_stays_lawful,
+    every_ledger_stays_lawful, every_schedule_is_safe, every_schedule_means,
 };
 
 /// In each farm that a schedule leads to: whichever live leases are given back, in whatever order, each Release makes the
@@ -41,6 +42,60 @@ pub fn every_ask_can_be_answered()
 pub fn every_open_ask_can_be_answered()
     ensures { EveryOpenAskCanBeAnswered }
 {
+    every_farm_stays_lawful();
+    every_schedule_is_safe();
+    every_schedule_means();
+}
+
+/// Each live lease that is no tenure, of a node that isn't down for good, can be given back: whatever state its ask is in,
+/// a nudge, the Grant, an abort and the Release end it, or a Commit that is sent again, or the Hello of a newer life.
+pub fn every_lease_can_be_given_back()
+    ensures { EveryLeaseCanBeGivenBack }
+{
+    a_message_touches_only_its_own();
+    every_event_keeps_the_farm();
+    every_farm_stays_lawful();
+    every_schedule_is_safe();
+}
+
+/// So where executions end, and what is sent again comes, each open ask for a lease is answered, in at most four events for
+/// each lease and parked ask, and seven: nobody has to withdraw anything, and no node has to restart.
+pub fn every_open_ask_is_answered_by_giving_back()
+    ensures answered { EveryOpenAskIsAnsweredByGivingBack }
+    ensures up { YoungNodesAreUp }
+    ensures waits { AnAcceptedAskWaits }
+{
+    a_message_touches_only_its_own();
+    every_event_keeps_the_farm();
+    every_farm_stays_lawful();
+    every_schedule_is_safe();
+    every_schedule_means();
+}
+
+/// A tenure can be given back too: the asks of its node that use its folder are answered first, and end. So each open ask
+/// that waits for at most one folder is answered, for a tenure too.
+pub fn every_open_tenure_is_answered_by_giving_back()
+    ensures ended { EveryTenureCanBeGivenBack }
+    ensures answered { EveryOpenTenureIsAnsweredByGivingBack }
+{
+    a_message_touches_only_its_own();
+    every_event_keeps_the_farm();
+    every_farm_stays_lawful();
+    every_schedule_is_safe();
+    every_schedule_means();
+}
+
+/// In each fair run, in which each message that was sent arrives, nodes and coordinator say again what isn't answered, and what
+/// was granted is given up or ends: each lease ends, and each open ask that waits for at most one folder is answered, for a
+/// tenure too, of a node that goes on in its life.
+pub fn every_open_ask_is_answered()
+    ensures ended { EveryLeaseEnds }
+    ensures answered { EveryOpenAskIsAnswered }
+    ensures fair { ThereAreFairRuns }
+    ensures one { OneFolderIsOne }
+{
+    a_message_touches_only_its_own();
+    every_event_keeps_the_farm();
     every_farm_stays_lawful();
     every_schedule_is_safe();
     every_schedule_means();

@@ -1,3 +1,4 @@
 pub mod Hashers
+pub mod Keyrings
 pub mod Macs
 pub mod Seals

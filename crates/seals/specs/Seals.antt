@@ -1,4 +1,4 @@
--- A sealed line, without its end: a text, a space, and the digits of its MAC under the farm's key (this project's own).
+-- A sealed line, without its end: a text, a space, and the digits of its MAC under a key (this project's own).
 use Rattle.std.specs.Prelude.{ℕ, List, ◌∷◌, ◌++◌}
 use Rattle.hex.specs.Hex.{encode_lower}
 use Rattle.seals.specs.Macs.{hmac_sha256}

@@ -61,3 +61,14 @@ pub fn text_of<'a>(key: &FarmKey, line: &'a [u8]) -> Option<&'a [u8]>
         None
     }
 }
+
+/// What stands before the MAC of a line, if there can be one.
+pub fn before_mac(line: &[u8]) -> Option<&[u8]>
+    ensures found { IfSome result (λ front. (key text : List ℕ) → line.now ≡ with_mac key text → text ≡ front.now) }
+    ensures none { IfNone result ((key text : List ℕ) → line.now ≢ with_mac key text) }
+{
+    if line.len() < MAC_LEN {
+        return None;
+    }
+    Some(&line[..line.len() - MAC_LEN])
+}

@@ -26,6 +26,7 @@ use Rattle.services.specs.Says.Says.{Says_nothing}
 use Rattle.services.specs.Served.{joined, out_of_memory, refused_save, refusals, restart_line, settled_text}
 use Rattle.services.specs.Unreads.{unread_line}
 use Rattle.services.proofs.SaysLemmas.{note_says, both_say}
+use Rattle.farmwire.specs.Sealed.{Keys}
 
 -- ---- one line
 
@@ -94,27 +95,27 @@ abbrev pub ◌⊕◌ : Clean → Clean → Clean
 a ⊕ b = record { text = a.text ++ b.text; lacks = Lacks-append 10 a.text b.text a.lacks b.lacks }
 
 -- the line of one that begins with `:`
-pub fact_says : (key : List ℕ) (c : Clean) → c.text ≡ 58 ∷ drop 1 c.text → Says key [] (c.text ++ codes "\n")
-fact_says key c e = note_says key (c.text ++ codes "\n") (fact_line c.text c.lacks e)
+pub fact_says : (keys : Keys) (c : Clean) → c.text ≡ 58 ∷ drop 1 c.text → Says keys [] (c.text ++ codes "\n")
+fact_says keys c e = note_says keys (c.text ++ codes "\n") (fact_line c.text c.lacks e)
 
 -- ---- notes one behind the other
 
-pub record Notes (key : List ℕ) : Type 0 where
+pub record Notes (keys : Keys) : Type 0 where
   pub text : List ℕ
-  pub says : Says key [] text
+  pub says : Says keys [] text
 
-abbrev pub notes : {key : List ℕ} (text : List ℕ) → Says key [] text → Notes key
+abbrev pub notes : {keys : Keys} (text : List ℕ) → Says keys [] text → Notes keys
 notes text h = record { text = text; says = h }
 
 infixl 65 ◌⊞◌
-abbrev pub ◌⊞◌ : {key : List ℕ} → Notes key → Notes key → Notes key
-◌⊞◌ {key} a b = record { text = a.text ++ b.text; says = both_say key [] [] a.text b.text a.says b.says }
+abbrev pub ◌⊞◌ : {keys : Keys} → Notes keys → Notes keys → Notes keys
+◌⊞◌ {keys} a b = record { text = a.text ++ b.text; says = both_say keys [] [] a.text b.text a.says b.says }
 
-pub each_says : {X : Type 0} {key : List ℕ} (text : X → List ℕ) → ((x : X) → Says key [] (text x)) → (xs : List X) → Says key [] (flat_map text xs)
+pub each_says : {X : Type 0} {keys : Keys} (text : X → List ℕ) → ((x : X) → Says keys [] (text x)) → (xs : List X) → Says keys [] (flat_map text xs)
 each_says text one [] = Says_nothing
-each_says {key = key} text one (x ∷ xs) = both_say key [] [] (text x) (flat_map text xs) (one x) (each_says text one xs)
+each_says {keys = keys} text one (x ∷ xs) = both_say keys [] [] (text x) (flat_map text xs) (one x) (each_says text one xs)
 
-abbrev pub of_each : {X : Type 0} {key : List ℕ} (text : X → List ℕ) → ((x : X) → Says key [] (text x)) → (xs : List X) → Notes key
+abbrev pub of_each : {X : Type 0} {keys : Keys} (text : X → List ℕ) → ((x : X) → Says keys [] (text x)) → (xs : List X) → Notes keys
 of_each text one xs = notes (flat_map text xs) (each_says text one xs)
 
 -- ---- what events did
@@ -199,42 +200,42 @@ node_refusal_ends node_refusal.Needed = Lacks-from_test 10 (codes "Needed") refl
 -- ---- lines of both filters
 
 -- a line that is always the same
-pub fixed : (key : List ℕ) (text : List ℕ) → NoEnd text → Says key [] (61 ∷ text ++ 10 ∷ [])
-fixed key text h = note_says key (61 ∷ text ++ 10 ∷ []) (answer_of (text ++ 10 ∷ []) (last_part text h))
+pub fixed : (keys : Keys) (text : List ℕ) → NoEnd text → Says keys [] (61 ∷ text ++ 10 ∷ [])
+fixed keys text h = note_says keys (61 ∷ text ++ 10 ∷ []) (answer_of (text ++ 10 ∷ []) (last_part text h))
 
 -- the last line of an answer, and a refusal
-pub noted_says : (key text : List ℕ) → NoEnd text → Says key [] (codes "= " ++ (text ++ codes "\n"))
-noted_says key text h =
-    note_says key (codes "= " ++ (text ++ codes "\n"))
+pub noted_says : (keys : Keys) (text : List ℕ) → NoEnd text → Says keys [] (codes "= " ++ (text ++ codes "\n"))
+noted_says keys text h =
+    note_says keys (codes "= " ++ (text ++ codes "\n"))
     (answer_of (codes " " ++ (text ++ codes "\n")) (then_end (codes " ") (text ++ codes "\n") (Lacks-from_test 10 (codes " ") refl) (last_part text h)))
 
-pub refused_says : (key text : List ℕ) → NoEnd text → Says key [] (codes "= refused " ++ (text ++ codes "\n"))
-refused_says key text h =
-    note_says key (codes "= refused " ++ (text ++ codes "\n"))
+pub refused_says : (keys : Keys) (text : List ℕ) → NoEnd text → Says keys [] (codes "= refused " ++ (text ++ codes "\n"))
+refused_says keys text h =
+    note_says keys (codes "= refused " ++ (text ++ codes "\n"))
     (answer_of (codes " refused " ++ (text ++ codes "\n")) (then_end (codes " refused ") (text ++ codes "\n") (Lacks-from_test 10 (codes " refused ") refl) (last_part text h)))
 
-pub lost_says : (key : List ℕ) → Says key [] out_of_memory
-lost_says key = fixed key (codes " refused OutOfMemory") (Lacks-from_test 10 (codes " refused OutOfMemory") refl)
+pub lost_says : (keys : Keys) → Says keys [] out_of_memory
+lost_says keys = fixed keys (codes " refused OutOfMemory") (Lacks-from_test 10 (codes " refused OutOfMemory") refl)
 
-pub unread_says : (key : List ℕ) (why : Unread) → Says key [] (unread_line why)
-unread_says key TooLong = fixed key (codes " dropped TooLong") (Lacks-from_test 10 (codes " dropped TooLong") refl)
-unread_says key BadMac = fixed key (codes " dropped BadMac") (Lacks-from_test 10 (codes " dropped BadMac") refl)
-unread_says key BadForm = fixed key (codes " dropped BadForm") (Lacks-from_test 10 (codes " dropped BadForm") refl)
-unread_says key NotMine = fixed key (codes " dropped NotMine") (Lacks-from_test 10 (codes " dropped NotMine") refl)
-unread_says key BadLine = fixed key (codes " refused BadLine") (Lacks-from_test 10 (codes " refused BadLine") refl)
-unread_says key OutOfMemory = lost_says key
+pub unread_says : (keys : Keys) (why : Unread) → Says keys [] (unread_line why)
+unread_says keys TooLong = fixed keys (codes " dropped TooLong") (Lacks-from_test 10 (codes " dropped TooLong") refl)
+unread_says keys BadMac = fixed keys (codes " dropped BadMac") (Lacks-from_test 10 (codes " dropped BadMac") refl)
+unread_says keys BadForm = fixed keys (codes " dropped BadForm") (Lacks-from_test 10 (codes " dropped BadForm") refl)
+unread_says keys NotMine = fixed keys (codes " dropped NotMine") (Lacks-from_test 10 (codes " dropped NotMine") refl)
+unread_says keys BadLine = fixed keys (codes " refused BadLine") (Lacks-from_test 10 (codes " refused BadLine") refl)
+unread_says keys OutOfMemory = lost_says keys
 
-pub restart_says : (key : List ℕ) (r : Result ⊤ CoordRefusal) → Says key [] (restart_line r)
-restart_says key (Ok done) = note_says key (restart_line (Ok done)) (fact_of (codes " restarted\n") (last_part (codes " restarted") (Lacks-from_test 10 (codes " restarted") refl)))
-restart_says key (Err refusal) =
-    note_says key (restart_line (Err refusal)) (fact_of (codes " down " ++ (coord_refusal_text refusal ++ codes "\n"))
+pub restart_says : (keys : Keys) (r : Result ⊤ CoordRefusal) → Says keys [] (restart_line r)
+restart_says keys (Ok done) = note_says keys (restart_line (Ok done)) (fact_of (codes " restarted\n") (last_part (codes " restarted") (Lacks-from_test 10 (codes " restarted") refl)))
+restart_says keys (Err refusal) =
+    note_says keys (restart_line (Err refusal)) (fact_of (codes " down " ++ (coord_refusal_text refusal ++ codes "\n"))
     (then_end (codes " down ") (coord_refusal_text refusal ++ codes "\n") (Lacks-from_test 10 (codes " down ") refl) (last_part (coord_refusal_text refusal) (coord_refusal_ends refusal))))
 
-refusals_say : (key : List ℕ) (answers : List (List ℕ)) → Says key [] (joined (refusals answers))
-refusals_say key [] = Says_nothing
-refusals_say key (answer ∷ answers) =
-    both_say key [] [] refused_save (joined (refusals answers)) (fixed key (codes " refused SaveFault") (Lacks-from_test 10 (codes " refused SaveFault") refl)) (refusals_say key answers)
+refusals_say : (keys : Keys) (answers : List (List ℕ)) → Says keys [] (joined (refusals answers))
+refusals_say keys [] = Says_nothing
+refusals_say keys (answer ∷ answers) =
+    both_say keys [] [] refused_save (joined (refusals answers)) (fixed keys (codes " refused SaveFault") (Lacks-from_test 10 (codes " refused SaveFault") refl)) (refusals_say keys answers)
 
 -- what is written of answers that don't last
-pub failed_says : (key : List ℕ) (restart : Result ⊤ CoordRefusal) (answers : List (List ℕ)) → Says key [] (settled_text (Failed restart) answers)
-failed_says key restart answers = both_say key [] [] (restart_line restart) (joined (refusals answers)) (restart_says key restart) (refusals_say key answers)
+pub failed_says : (keys : Keys) (restart : Result ⊤ CoordRefusal) (answers : List (List ℕ)) → Says keys [] (settled_text (Failed restart) answers)
+failed_says keys restart answers = both_say keys [] [] (restart_line restart) (joined (refusals answers)) (restart_says keys restart) (refusals_say keys answers)

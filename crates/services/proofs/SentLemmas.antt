@@ -6,7 +6,7 @@ use Rattle.std.specs.declared.string.String.{String}
 use Rattle.std.specs.Result.{IfOk, OnOk, IsErrAnd, is_ok}
 use Rattle.std.specs.String.{string_bytes}
 use Rattle.std.proofs.lemmas.List.{append-nil}
-use Rattle.farmwire.specs.Sealed.{IsSealed}
+use Rattle.farmwire.specs.Sealed.{IsSealed, Keys}
 use Rattle.protocol.specs.Machine.{Message}
 use Rattle.services.specs.Outside.{message_line, HasNoLine, IsSent, Adds, AreSent, Sends}
 use Rattle.services.specs.Outside.IsSent.{Sealed, Unsent}
@@ -18,24 +18,24 @@ pub when_ok : {T E : Type 0} (r : Result T E) (new pushed old : List ℕ) → ne
 when_ok (Ok done) new pushed old h = h
 when_ok (Err e) new pushed old h = tt
 
-sent-push : (key : List ℕ) (messages : List Message) (texts : List (List ℕ)) (message : Message) (added : List ℕ)
-    → AreSent key messages texts → IsSent key message added → AreSent key (messages ++ message ∷ []) (texts ++ added ∷ [])
-sent-push key [] [] message added h is = (is, tt)
-sent-push key [] (t ∷ texts) message added h is = absurd h
-sent-push key (m ∷ messages) [] message added h is = absurd h
-sent-push key (m ∷ messages) (t ∷ texts) message added (first, others) is = (first, sent-push key messages texts message added others is)
+sent-push : (keys : Keys) (messages : List Message) (texts : List (List ℕ)) (message : Message) (added : List ℕ)
+    → AreSent keys messages texts → IsSent keys message added → AreSent keys (messages ++ message ∷ []) (texts ++ added ∷ [])
+sent-push keys [] [] message added h is = (is, tt)
+sent-push keys [] (t ∷ texts) message added h is = absurd h
+sent-push keys (m ∷ messages) [] message added h is = absurd h
+sent-push keys (m ∷ messages) (t ∷ texts) message added (first, others) is = (first, sent-push keys messages texts message added others is)
 
-pub sends-none : (key before : List ℕ) → Sends key [] before before
-sends-none key before = record { texts = []; each = tt; written = sym (append-nil before) }
+pub sends-none : (keys : Keys) (before : List ℕ) → Sends keys [] before before
+sends-none keys before = record { texts = []; each = tt; written = sym (append-nil before) }
 
 -- a message without a line
-pub adds_nothing : (key : List ℕ) (message : Message) (before : List ℕ) → HasNoLine key message → Adds key message before before
-adds_nothing key message before none = record { text = []; sent = Unsent none refl; written = sym (append-nil before) }
+pub adds_nothing : (keys : Keys) (message : Message) (before : List ℕ) → HasNoLine keys message → Adds keys message before before
+adds_nothing keys message before none = record { text = []; sent = Unsent none refl; written = sym (append-nil before) }
 
 -- its line, in three parts
-pub adds_line : (key line : List ℕ) (message : Message) (before one two after : List ℕ) → IsSealed key line message
-    → one ≡ before ++ codes "m " → two ≡ one ++ line → after ≡ two ++ codes "\n" → Adds key message before after
-adds_line key line message before one two after is e f g = record {
+pub adds_line : (keys : Keys) (line : List ℕ) (message : Message) (before one two after : List ℕ) → IsSealed keys line message
+    → one ≡ before ++ codes "m " → two ≡ one ++ line → after ≡ two ++ codes "\n" → Adds keys message before after
+adds_line keys line message before one two after is e f g = record {
   text = message_line line;
   sent = Sealed line is refl;
   written = g ∙ ap (λ front. front ++ codes "\n") (f ∙ ap (λ front. front ++ line) e ∙ append_assoc before (codes "m ") line)
@@ -43,11 +43,11 @@ adds_line key line message before one two after is e f g = record {
 }
 
 -- one more message
-pub sends-push : (key : List ℕ) (messages : List Message) (message : Message) (before mid after : List ℕ)
-    → Sends key messages before mid → Adds key message mid after → Sends key (messages ++ message ∷ []) before after
-sends-push key messages message before mid after h is = record {
+pub sends-push : (keys : Keys) (messages : List Message) (message : Message) (before mid after : List ℕ)
+    → Sends keys messages before mid → Adds keys message mid after → Sends keys (messages ++ message ∷ []) before after
+sends-push keys messages message before mid after h is = record {
   texts = h.texts ++ is.text ∷ [];
-  each = sent-push key messages h.texts message is.text h.each is.sent;
+  each = sent-push keys messages h.texts message is.text h.each is.sent;
   written = is.written ∙ ap (λ front. front ++ is.text) h.written ∙ append_assoc before (joined h.texts) is.text
       ∙ ap (λ rest. before ++ rest) (sym (joined-push h.texts is.text));
 }

@@ -6,5 +6,7 @@ mod lines;
 mod probes;
 
 pub use line::{Line, Room};
-pub use lines::{Added, Addition, Lines, SlotLine, additions, all_stand, confirmed, granted_slots};
+pub use lines::{
+    Added, Addition, Lines, SlotLine, additions, all_stand, confirmed, granted_slots, last_digest,
+};
 pub use probes::{LineProbes, Probed, search};

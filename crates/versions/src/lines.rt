@@ -258,6 +258,16 @@ fn version_count(lines: &Lines, slot: &Slot) -> u64
     }
 }
 
+/// The digest of a line's last version; the empty content's where it has none.
+pub fn last_digest(alloc: Global, line: &Line) -> Digest
+    ensures { result ≡ last_digest empty_digest line.now }
+{
+    match line.digest_at(line.len()) {
+        Some(digest) => digest,
+        None => empty_digest(alloc),
+    }
+}
+
 /// The last version of a slot's line.
 fn last_version(alloc: Global, lines: &Lines, slot: &Slot) -> Base
     ensures number { result.number ≡ length (line_at lines.now slot.now) }
@@ -271,7 +281,7 @@ fn last_version(alloc: Global, lines: &Lines, slot: &Slot) -> Base
         },
         Some(line) => Base {
             number: line.len(),
-            digest: line.digest_at(line.len()).unwrap_or(empty_digest(alloc)),
+            digest: last_digest(alloc, line),
         },
     }
 }

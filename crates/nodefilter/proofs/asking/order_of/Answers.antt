@@ -5,10 +5,11 @@ use Rattle.nodefilter.specs.Asked.{IsHeard, Orders}
 use Rattle.nodefilter.specs.Asked.Orders.{Heard}
 use Rattle.nodelines.specs.Orders.{AskedBy}
 use Rattle.nodefilter.proofs.asking.order_of.Goals as goal
+use Rattle.farmwire.specs.Sealed.{key_in}
 
 pub returns-in-Some-clause-asked : goal.returns-in-Some-clause-asked
 returns-in-Some-clause-asked c =
-    IfOk-weaker c.heard_order.result (IsHeard c.args.key.now c.args.me c.in-Some.sealed.now) (Orders c.args.key.now c.args.me c.args.line.now)
+    IfOk-weaker c.heard_order.result (IsHeard (key_in c.args.keys.now) c.args.me c.in-Some.sealed.now) (Orders (key_in c.args.keys.now) c.args.me c.args.line.now)
     (λ o h. Heard c.in-Some.sealed.now c.in-Some.ensures.found h) c.heard_order.ensures.heard
 
 pub returns-in-Err-BadForm-clause-unread : goal.returns-in-Err-BadForm-clause-unread

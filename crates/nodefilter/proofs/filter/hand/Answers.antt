@@ -1,4 +1,4 @@
-use Rattle.std.proofs.Common.{◌≡◌, is_some, option_copied, refl, sym, ap, ◌∙◌}
+use Rattle.std.proofs.Common.{◌≡◌, option_copied, refl, sym, ap, ◌∙◌}
 use Rattle.services.proofs.SentLemmas.{or_lost}
 use Rattle.nodefilter.specs.Filters.{no_content}
 use Rattle.nodefilter.specs.Filters.Follows.{Hands, Has_not}
@@ -12,5 +12,6 @@ returns-in_default g c =
 
 pub returns-in-Ok : goal.returns-in-Ok
 returns-in-Ok g c =
-    Hands c.args.digest c.args.file refl (ap is_some (sym c.content.ensures.value ∙ ap option_copied c.in-Some.is)) refl
+    Hands c.args.digest c.args.file c.in-Some.content.now refl (sym c.content.ensures.value ∙ ap option_copied c.in-Some.is)
+    (rw c.as_str.ensures.value at (rw c.bytes.ensures.value at c.in-Ok.ensures)) refl
     (or_lost (λ text. text ≡ content_line c.args.digest) c.print_content.result c.print_content.ensures)

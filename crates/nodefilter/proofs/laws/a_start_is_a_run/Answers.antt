@@ -2,4 +2,4 @@ use Rattle.nodefilter.proofs.RuleLemmas.{a_start_is_a_run}
 use Rattle.nodefilter.proofs.laws.a_start_is_a_run.Goals as goal
 
 pub returns : goal.returns
-returns g c = a_start_is_a_run g.S.Store.kept g.S.Store.last_life
+returns g c = a_start_is_a_run g.S.Store.kept g.S.Store.last_life g.S.Store.had

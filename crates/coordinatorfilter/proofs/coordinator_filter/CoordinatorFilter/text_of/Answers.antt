@@ -5,6 +5,7 @@ use Rattle.coordinatorfilter.specs.Written.{IsWritten}
 use Rattle.coordinatorfilter.specs.Written.Filters.{Calls, Stops, Shows, Drops}
 use Rattle.services.proofs.SentLemmas.{or_lost, lost_text}
 use Rattle.coordinatorfilter.proofs.coordinator_filter.CoordinatorFilter.text_of.Goals as goal
+use Rattle.farmwire.specs.Sealed.{key_in}
 
 pub returns-in-Err : goal.returns-in-Err
 returns-in-Err g c = (
@@ -15,7 +16,7 @@ returns-in-Err g c = (
 pub returns-in_ok-reply-in-Ok-Call : goal.returns-in_ok-reply-in-Ok-Call
 returns-in_ok-reply-in-Ok-Call g c = (
   Calls c.in-Ok-Call.call c.in_ok-reply-in-Ok-Call.reply (rw c.in-Ok-Call.field-0-is at c.in-Ok-Call.ensures.asked) c.in_ok-reply-in-Ok-Call.ensures.done
-      (or_lost (IsWritten c.args.self.now.key c.in_ok-reply-in-Ok-Call.reply) c.print_reply.result c.print_reply.ensures),
+      (or_lost (IsWritten (key_in c.args.self.now.keys) c.in_ok-reply-in-Ok-Call.reply) c.print_reply.result c.print_reply.ensures),
   refl,
 )
 
