@@ -7,7 +7,7 @@ from __future__ import annotations
 import contextlib
 import os
 import sys
-from typing import Iterator
+from typing import Callable, Iterator
 
 USAGE = 64  # the words of the command
 BAD_DOCKERFILE = 65
@@ -79,8 +79,21 @@ class ClientGone(FarmFault):
 
 
 def tell(text: str) -> None:
-    """Says something on the standard error. Where nobody can hear it any more, that changes nothing else."""
+    """Says something on the standard error, or in the log of an agent."""
+    _tellers[-1](text)
+
+
+def tell_by(how: Callable[[str], None] | None) -> None:
+    """What is told goes there from now on; with none it goes to the standard error again."""
+    _tellers[1:] = [how] if how else []
+
+
+def _say(text: str) -> None:
+    """Where nobody can hear it any more, that changes nothing else."""
     try:
         print(f"farm: {text}", file=sys.stderr, flush=True)
     except OSError:
         sys.stderr = open(os.devnull, "w")  # what the old one still holds would become the status
+
+
+_tellers: list[Callable[[str], None]] = [_say]  # set where a process begins to serve

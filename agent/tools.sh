@@ -38,11 +38,14 @@ casync casync
 buildah buildah
 busybox busybox-static
 dockerd docker.io
+promtool prometheus
 redis-server redis-server
 python:mypy python3-mypy
 python:pyflakes python3-pyflakes
 ip iproute2
 chromium chromium
+python:boto3 python3-boto3
+python:swift python3-swift
 END
 
 printf "the agent's tools: %d there, %d installed, %d skipped" $there $installed ${#skipped[@]}

@@ -41,6 +41,11 @@ def short_name(text: str, kind: str = "farm") -> str:
     return f"{kind}-{digest[:32]}"
 
 
+def who_of(text: str) -> str:
+    """A text as the history names somebody: of at most 64 characters, all of them printable ASCII."""
+    return "".join(c if "!" <= c <= "~" else "_" for c in text.strip()[:64])
+
+
 class Want(NamedTuple):
     """A folder that a command asks for, and where it wants it."""
 
@@ -128,6 +133,11 @@ def versions_of(words: list[str]) -> dict[str, tuple[int, str]]:
         number, _, digest = version.partition(":")
         versions[slot] = (int(number), digest)
     return versions
+
+
+def is_bucket(contents: str) -> bool:
+    """Whether `--contents` names a bucket of an object store, and no folder."""
+    return contents.startswith("s3://")
 
 
 def version_of(text: str) -> tuple[str, int | None]:

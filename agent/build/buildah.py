@@ -1,4 +1,4 @@
-"""Debian's buildah as a builder: without a daemon, by chroot isolation, its storage a folder of the node's.
+"""Debian's buildah as a builder: without a daemon, its storage a folder of the node's, its steps isolated as `isolation` says.
 
 Owes the filters that it ends with the agent, and that of a cache mount it uses the folder that `enter` told, in the build's own room, and
 nothing else: also a mount that the Dockerfile's reader missed is of that room.
@@ -6,22 +6,27 @@ nothing else: also a mount that the Dockerfile's reader missed is of that room.
 from __future__ import annotations
 
 import contextlib
+import functools
 import glob
+import hashlib
 import json
 import os
 import re
+import secrets
 import subprocess
 import tempfile
 import threading
 import time
+from dataclasses import dataclass
 from datetime import datetime
 from typing import Any, Callable, Iterable, Iterator
 
-from agent.build.builder import CacheMount, Image
+from agent.build.builder import CacheMount, Image, is_for
 from agent.build.dockerfile import BUILDAH, Base, Reader
 from agent.build.dockertext import BadDockerfile
+from agent.build.isolation import Isolation, found
 from agent.build.mounts import Mount
-from agent.faults import FarmFault
+from agent.faults import FarmFault, UsageFault
 from agent.runs.executions import launcher
 from agent.runs.launch import ORPHANED
 from agent.service.requests import BuildOptions
@@ -33,12 +38,29 @@ MARK = "id=farm-build-"
 MARKED = re.compile(rf"{MARK}([0-9.]+),")
 
 
+PROBE = "farm-probe"
+
+
+@dataclass(frozen=True)
+class Caches:
+    """Where a buildah keeps cache mounts in its temporary folder: by their ids, as 1.28 does, or since by digests of them."""
+
+    folder: str
+    is_hashed: bool
+
+    def place_of(self, identifier: str) -> str:
+        return f"{self.folder}/{hashlib.sha256(identifier.encode()).hexdigest()[:16] if self.is_hashed else identifier}"
+
+
 class Buildah:
     name = "buildah"
     LOCK_FILE = "buildah-cache-lockfile"
 
-    def __init__(self, home: str, room: Callable[[], contextlib.AbstractContextManager[str]] = tempfile.TemporaryDirectory) -> None:
+    def __init__(
+        self, home: str, room: Callable[[], contextlib.AbstractContextManager[str]] = tempfile.TemporaryDirectory, isolation: str | None = None
+    ) -> None:
         self.home, self.room = home, room
+        self.wanted = isolation  # oci or chroot; else the best that there is
         self.storage = ["--root", f"{home}/root", "--runroot", f"{home}/run", "--storage-driver", "vfs"]
         self.tagging = threading.Lock()
         self.unnamed: set[str] = set()  # images that lost their last name to another one
@@ -49,11 +71,11 @@ class Buildah:
             raise FarmFault("builds need the farm to run as root")
         return [need("buildah"), *self.storage, *words]
 
-    def _call(self, *words: str, check: Callable[[], None] = lambda: None) -> subprocess.CompletedProcess[str]:
+    def _call(self, *words: str, check: Callable[[], None] = lambda: None, temporary: str | None = None) -> subprocess.CompletedProcess[str]:
         """A call outside any lease. It ends with the agent."""
         os.makedirs(self.home, exist_ok=True)
         with self.room() as room:
-            env = {"PATH": os.environ.get("PATH", os.defpath), "HOME": self.home, "TMPDIR": room}
+            env = {"PATH": os.environ.get("PATH", os.defpath), "HOME": self.home, "TMPDIR": temporary or room}
             spec = {"command": self._words(*words), "cwd": "/", "env": env, "binds": [], "parent": os.getpid(), "namespace": False}
             with launcher(spec) as (call, said):
                 process = subprocess.Popen(
@@ -61,8 +83,35 @@ class Buildah:
                 )
             return whole(process, check, ORPHANED)
 
+    @functools.cached_property
+    def isolation(self) -> Isolation:
+        """Tried once: a second thread that comes meanwhile tries too, and finds the same."""
+        return found(self.wanted)
+
+    @functools.cached_property
+    def caches(self) -> Caches:
+        """Where this buildah keeps cache mounts. But for 1.28 it is tried, once: it makes the folder of one before it finds nothing to run."""
+        if "version 1.28." in self._said("--version"):
+            return Caches("buildah-cache", False)
+        with self.room() as room:
+            os.mkdir(f"{room}/empty")
+            with open(f"{room}/Dockerfile", "w") as file:
+                file.write(f'FROM scratch\nRUN --mount=type=cache,id={PROBE},target=/c ["/none"]\n')
+            done = self._call("bud", "--isolation", "chroot", "-f", file.name, f"{room}/empty", temporary=room)
+            found = glob.glob(f"{glob.escape(room)}/buildah-cache*/*")
+            for is_hashed in (False, True):
+                caches = Caches(os.path.basename(os.path.dirname(found[0])) if found else "", is_hashed)
+                if found == [f"{room}/{caches.place_of(PROBE)}"]:
+                    return caches
+        raise FarmFault(f"this buildah keeps cache mounts where no leased folder can be: {[path.removeprefix(room) for path in found]}. {why(done)}")
+
     def check(self, text: str, build_args: dict[str, str], options: BuildOptions) -> Reader:
+        if options.network not in (None, "host") and not self.isolation.is_wall:
+            raise UsageFault(f"--network {options.network} wants an OCI runtime: by chroot the steps have this machine's network. {self.isolation.why}")
         return BUILDAH
+
+    def warning(self) -> str:
+        return "" if self.isolation.is_wall or self.wanted == "chroot" else str(self.isolation)
 
     def base_of(self, name: str, options: BuildOptions, check: Callable[[], None]) -> Base:
         told = self._inspected(name, options, check)
@@ -73,7 +122,7 @@ class Buildah:
 
     def _inspected(self, name: str, options: BuildOptions, check: Callable[[], None]) -> dict[str, Any]:
         done = self._call("inspect", "--type", "image", name)
-        if done.returncode or options.pull:
+        if done.returncode or options.pull or not _is_for(options.platform, done.stdout):
             with self.room() as room:
                 platform = [f"--platform={options.platform}"] if options.platform else []
                 pulled = self._call("pull", *authfile(room, options), *platform, name, check=check)
@@ -85,9 +134,12 @@ class Buildah:
         return dict(json.loads(done.stdout))
 
     def enter(self, room: str, slots: Iterable[str], check: Callable[[], None]) -> list[CacheMount]:
-        home = f"{room}/tmp/buildah-cache"
-        os.makedirs(home, exist_ok=True)
-        return [CacheMount(slot, name := short_name(slot), f"{home}/{name}") for slot in slots]
+        """Each under an id that never comes again: by `--layers` buildah takes a step from its cache by its words alone, whatever a leased
+        folder holds by now."""
+        own = secrets.token_hex(16)
+        os.makedirs(f"{room}/tmp/{self.caches.folder}", exist_ok=True)
+        ids = [(slot, f"{short_name(slot)}-{own}") for slot in slots]
+        return [CacheMount(slot, identifier, f"{room}/tmp/{self.caches.place_of(identifier)}") for slot, identifier in ids]
 
     def word(self, mount: Mount, held: CacheMount) -> str:
         """The builder gets no sharing: its own lock of one would wait for itself where a RUN has two mounts of a folder."""
@@ -106,8 +158,9 @@ class Buildah:
         """Nothing of the mounts outlives their room."""
 
     def command(self, image: Image) -> tuple[list[str], dict[str, str]]:
-        os.makedirs(f"{image.room}/tmp/buildah-cache", exist_ok=True)
-        words = self._words("bud", "--isolation", "chroot", "--pull=false", "--iidfile", f"{image.room}/image", "-f", image.dockerfile)
+        os.makedirs(f"{image.room}/tmp", exist_ok=True)
+        words = self._words("bud", "--pull=false", "--iidfile", f"{image.room}/image", "-f", image.dockerfile)
+        words += self.isolation.words(image.room, image.options.network)
         words.append(f"--secret={MARK}{time.time():.3f},src={os.devnull}")
         words += [f"--build-arg={key}={value}" for key, value in image.build_args.items()]
         words += ["--target", image.target] if image.target else []
@@ -123,16 +176,17 @@ class Buildah:
         with open(f"{room}/image") as file:
             return file.read().strip()
 
-    def tag(self, name: str, tag: str) -> None:
+    def tag(self, name: str, tag: str, *, keeps_old: bool = False) -> None:
         before: dict[str, set[str]] = {}
         with self.tagging:
-            with self._cleaning():
-                before = self._images("--all")
+            if not keeps_old:
+                with self._cleaning():
+                    before = self._images("--all")
             done = self._call("tag", name, tag)
             if done.returncode:
                 raise FarmFault(f"the image {name} can't be tagged {tag}: {why(done)}")
             with self._cleaning():
-                now = self._images("--all")
+                now = self._images("--all") if before else {}
                 self.unnamed.update(
                     image for image, names in before.items() if names and names <= now[name] and image in now and not now[image]
                 )
@@ -188,6 +242,8 @@ class Buildah:
         return next((each for each in below if (own := self._layers(each)) == layers[: len(own)]), None)
 
     def sweep(self, rooms: list[str]) -> None:
+        for room in rooms:
+            self.isolation.forget(room)
         left, untagged = self._left(), self._untagged(rooms)
         if left or untagged:
             with self._cleaning():
@@ -236,8 +292,14 @@ def authfile(room: str, options: BuildOptions) -> list[str]:
 
 def _words_of(options: BuildOptions) -> list[str]:
     """The options of a build as `buildah bud` spells them."""
-    words = [f"--network={options.network}"] if options.network else []
-    words += [f"--platform={options.platform}"] if options.platform else []
+    words = [f"--platform={options.platform}"] if options.platform else []
     words += ["--no-cache"] if options.no_cache else []
     words += ["--quiet"] if options.quiet else []
+    words += ["--layers", "--force-rm"] if options.layers else ["--layers=false"]
     return [*words, *(f"--secret={each}" for each in options.secrets), *(f"--ssh={each}" for each in options.ssh)]
+
+
+def _is_for(platform: str | None, inspected: str) -> bool:
+    """Whether what `buildah inspect` told is of an image for this platform."""
+    told = json.loads(inspected).get("OCIv1") or {}
+    return is_for(platform, *(told.get(key) or "" for key in ("os", "architecture", "variant")))

@@ -60,6 +60,9 @@ class Builder(Protocol):
     def check(self, text: str, build_args: dict[str, str], options: BuildOptions) -> Reader:
         """Refuses what this builder can't carry out, before anything is fetched or leased. Who reads the Dockerfile."""
 
+    def warning(self) -> str:
+        """What the caller of a build is to be told of how its steps run."""
+
     def base_of(self, name: str, options: BuildOptions, check: Callable[[], None]) -> Base:
         """What an image says of builds that begin with it. It is fetched first where it isn't here, as long as `check` finds that
         somebody waits for it."""
@@ -85,8 +88,8 @@ class Builder(Protocol):
     def built(self, image: Image) -> str:
         """The name of the image that was built."""
 
-    def tag(self, name: str, tag: str) -> None:
-        """Gives an image a tag, which another one may have had."""
+    def tag(self, name: str, tag: str, *, keeps_old: bool = False) -> None:
+        """Gives an image a tag. Another one that had it, and has no other name, goes, unless it is kept."""
 
     def push(self, image: Image, tag: str, check: Callable[[], None]) -> None:
         """Sends the image of a tag to the registry that its name says, as the caller."""
@@ -96,3 +99,9 @@ class Builder(Protocol):
 
     def sweep(self, rooms: list[str]) -> None:
         """Removes what builds left which didn't end by themselves, those of these rooms and others. None is under way."""
+
+
+def is_for(platform: str | None, system: str, arch: str, variant: str) -> bool:
+    """Whether an image that is here is one for OS/ARCHITECTURE[/VARIANT]; each is, where none is wanted."""
+    wanted = (platform or "").split("/")
+    return all(not own or not theirs or own == theirs for own, theirs in zip(wanted, (system, arch, variant)))

@@ -24,7 +24,7 @@ from agent.runs.caller import Caller, Patience
 from agent.runs.run import Job, Placed, Run
 from agent.service.requests import BuildRequest, Built
 from agent.store.lasting import put_file
-from agent.words import Want, short_name
+from agent.words import Want, short_name, who_of
 
 IMAGE = "docker-image://"
 
@@ -55,9 +55,9 @@ def dockerfile_of(request: BuildRequest) -> str:
 class Builds:
     """The builds of a node. One lock has the builders, and how many builds are under way."""
 
-    def __init__(self, agent: NodeAgent, builder: Builder | None = None) -> None:
+    def __init__(self, agent: NodeAgent, builder: Builder | None = None, isolation: str | None = None) -> None:
         self.agent = agent
-        self.builder: Builder = builder or Buildah(f"{agent.home}/containers", agent.places.rooms.room)
+        self.builder: Builder = builder or Buildah(f"{agent.home}/containers", agent.places.rooms.room, isolation)
         self.home = f"{agent.home}/builds"
         self.lock = threading.Lock()
         self.daemons = {host: self._docker(host) for host in known_daemons(agent.home)}
@@ -163,6 +163,8 @@ class Build:
             with open(path, encoding="utf-8", newline="") as file:
                 text = file.read()
             reader = self.builder.check(text, asked.build_args, asked.options)
+            if warning := self.builder.warning():
+                self.caller.say(warning)
             return dockerfile.plan(text, asked.build_args, asked.target, base_of, asked.shared_as, reader)
         except UnicodeDecodeError:
             raise Refused(f"{path} isn't UTF-8") from None
@@ -194,12 +196,13 @@ class Build:
             self.builder.still([replace(self.held[folder], path=paths[folder]) for folder in folders if self._is_own(folder)], self._check())
 
         job = Job(
-            command=[], cwd=asked.cwd, env={}, wait=asked.wait, stops_when_lost=asked.stops_when_lost, keeps_failed=asked.keep_failed,
+            command=[], cwd=asked.cwd, env={}, wait=asked.wait, must_commit=asked.must_commit, stops_when_lost=asked.stops_when_lost,
+            keeps_failed=asked.keep_failed,
             # Of a SHARED folder the mount alone says whether it may be written: what is leased is the tenure.
             wants=[Want(folder, "", folder.startswith("shared:") or any(m.writable for m in mounts)) for folder, mounts in folders.items()],
             place=lambda slots, tenures: self._placed(plan, image, slots, tenures), home=self.builder if is_docker else None,
             skips_unchanged=is_docker, fenced_status=FENCED_BUILD, lost_status=LOST, of_shared=OF_SHARED, filled=filled, left=left,
-            on_conflict=asked.on_conflict, tells_conflicts=asked.tells_conflicts, is_warm=asked.is_warm,
+            on_conflict=asked.on_conflict, tells_conflicts=asked.tells_conflicts, is_warm=asked.is_warm, who=who_of(asked.who),
         )
         return self._settled(job, image)
 
@@ -248,7 +251,7 @@ class Build:
         name, tags = self.builder.built(image), self.asked.tags
         if tags and (status == 0 or self.asked.tag_fenced):
             for tag in tags:
-                self.builder.tag(name, tag)
+                self.builder.tag(name, tag, keeps_old=self.asked.options.layers)
             self.caller.say(f"image {name} is tagged {', '.join(tags)}")
             for tag in tags if self.asked.push else ():
                 self.builder.push(image, tag, self._check())

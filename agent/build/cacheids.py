@@ -29,6 +29,7 @@ class Known:
     id: str | None = None
     dirty: bool = False
     path: str = ""
+    daemon: str = ""  # whose path it is
     old: list[list[str]] = field(default_factory=list)
 
 
@@ -52,9 +53,10 @@ class CacheIds:
         os.makedirs(self.home, exist_ok=True)
         put_file(self._file(known.slot), json.dumps(asdict(known)).encode())
 
-    def take(self, slots: list[str]) -> dict[str, str]:
-        """The ids of leased slots, each dirty from now on. One whose last lease didn't end well has a new one."""
-        taken = {}
+    def take(self, slots: list[str], daemon: str = "") -> list[CacheMount]:
+        """The mounts of leased slots, each dirty from now on. One whose last lease didn't end well has a new id. The path is where this daemon
+        had it when the last lease ended well, else empty."""
+        taken = []
         with self.changed:
             late = time.monotonic() + ENDING
             while set(self.live.values()) & set(slots) and time.monotonic() < late:
@@ -64,16 +66,16 @@ class CacheIds:
                 if known.dirty or known.id is None:
                     known = _renewed(known)
                 self._write(replace(known, dirty=True))
-                taken[slot] = str(known.id)
+                taken.append(CacheMount(slot, str(known.id), known.path if known.daemon == daemon else ""))
                 self.live[str(known.id)] = slot
         return taken
 
-    def found(self, mount: CacheMount) -> None:
-        """Where a mount's directory is."""
+    def found(self, mount: CacheMount, daemon: str = "") -> None:
+        """Where a daemon has a mount's directory."""
         with self.changed:
             known = self._read(mount.slot)
             if known.id == mount.id:  # else a later lease has another one
-                self._write(replace(known, path=mount.path))
+                self._write(replace(known, path=mount.path, daemon=daemon))
 
     def leave(self, slot: str, identifier: str, ended_well: bool) -> None:
         with self.changed:
@@ -109,4 +111,4 @@ class CacheIds:
 def _renewed(known: Known) -> Known:
     """A new id, random, so that none comes twice, whatever became of this file."""
     left = [[known.id, known.path]] if known.id else []
-    return Known(known.slot, f"farm-{secrets.token_hex(16)}", False, "", [*known.old, *left])
+    return Known(known.slot, f"farm-{secrets.token_hex(16)}", old=[*known.old, *left])

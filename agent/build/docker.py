@@ -19,6 +19,7 @@ import secrets
 import shutil
 import socket
 import subprocess
+from dataclasses import replace
 from typing import Callable, Iterable
 
 from agent.build.builder import CacheMount, Image
@@ -54,6 +55,7 @@ class Docker:
         self.ids = CacheIds(f"{home}/mounts")
         self.claimed: dict[str, socket.socket] = {}  # of a daemon's id: what says on this machine that this node has it
         self.version = 0
+        self.daemon = ""  # which one it is, and how it stores
 
     # Calls.
 
@@ -95,6 +97,9 @@ class Docker:
 
     # What is refused.
 
+    def warning(self) -> str:
+        return ""
+
     def check(self, text: str, build_args: dict[str, str], options: BuildOptions) -> Reader:
         if os.geteuid():
             raise FarmFault("builds need the farm to run as root")
@@ -118,7 +123,8 @@ class Docker:
         kinds = [kind for kind in ("rootless", "userns") if any(f"name={kind}" in each for each in info.get("SecurityOptions") or [])]
         if kinds:
             raise FarmFault(f"the Docker daemon at {self.host} runs with {kinds[0]}: owners there aren't what they are in a leased folder")
-        self._claim(f"{info['ID']} {info['DockerRootDir']}")  # daemons of one machine may have one id
+        self._claim(daemon := f"{info['ID']} {info['DockerRootDir']}")  # daemons of one machine may have one id
+        self.daemon = f"{daemon} {info['Driver']}"
 
     def _claim(self, daemon: str) -> None:
         """Says on this machine that this node has the daemon: another one would keep each folder there once more."""
@@ -138,7 +144,7 @@ class Docker:
     # Images.
 
     def base_of(self, name: str, options: BuildOptions, check: Callable[[], None]) -> Base:
-        told = None if options.pull else self.engine.config_of(name)
+        told = None if options.pull else self.engine.config_of(name, options.platform)
         if told is None:
             platform = [f"--platform={options.platform}"] if options.platform else []
             try:
@@ -170,8 +176,8 @@ class Docker:
         with open(f"{image.room}/docker-image") as file:
             return file.read().strip()
 
-    def tag(self, name: str, tag: str) -> None:
-        self._done(f"the image {name} can't be tagged {tag}", "tag", name, tag)
+    def tag(self, name: str, tag: str, *, keeps_old: bool = False) -> None:
+        self.engine.tag(name, tag)
 
     def push(self, image: Image, tag: str, check: Callable[[], None]) -> None:
         self._done(f"the image {tag} can't be pushed", "push", tag, options=image.options, check=check)
@@ -197,17 +203,19 @@ class Docker:
     # Mounts.
 
     def enter(self, room: str, slots: Iterable[str], check: Callable[[], None]) -> list[CacheMount]:
-        taken = self.ids.take(list(slots))
+        """After a lease that ended well no step has a mount, and it is where it was, or else `still` finds out: only new ones are probed."""
+        taken = self.ids.take(list(slots), self.daemon)
         try:
-            self._drop_old(list(taken))
-            paths = self._probe(list(taken.values()), check)
-            held = [CacheMount(slot, identifier, path) for (slot, identifier), path in zip(taken.items(), paths)]
+            self._drop_old([mount.slot for mount in taken])
+            new = [mount for mount in taken if not os.path.isdir(mount.path)]
+            paths = dict(zip((mount.id for mount in new), self._probe([mount.id for mount in new], check)))
+            held = [replace(mount, path=paths.get(mount.id, mount.path)) for mount in taken]
             for mount in held:
-                self.ids.found(mount)
+                self.ids.found(mount, self.daemon)
             return held
         except BaseException:
-            for slot, identifier in taken.items():
-                self.ids.leave(slot, identifier, False)
+            for mount in taken:
+                self.ids.leave(mount.slot, mount.id, False)
             raise
 
     def word(self, mount: Mount, held: CacheMount) -> str:
@@ -258,15 +266,17 @@ class Docker:
             if not os.path.exists(f"{context}/busybox"):
                 shutil.copy(need("busybox"), f"{context}/busybox.new")
                 os.rename(f"{context}/busybox.new", f"{context}/busybox")
-            mounts = [f"--mount=type=cache,id={each},target=/m/{n},sharing=locked,readonly" for n, each in enumerate(ids)]
+            mounts = ["--mount=type=bind,source=busybox,target=/busybox"]
+            mounts += [f"--mount=type=cache,id={each},target=/m/{n},sharing=locked,readonly" for n, each in enumerate(ids)]
             script = SCRIPT.format(numbers=" ".join(str(n) for n in range(len(ids))))
             mounts.append(f"--mount=type=tmpfs,target=/dev/farm-{secrets.token_hex(16)}")
             run = " ".join(["RUN", *mounts, json.dumps(["/busybox", "sh", "-c", script])])
             with open(f"{room}/Dockerfile", "w") as file:
-                file.write(f"FROM scratch\nCOPY busybox /busybox\n{run}\nFROM scratch\nCOPY --from=0 /told /told\n")
+                file.write(f"FROM scratch\n{run}\n")
             words = ("build", "--progress", "plain", "--network", "none", "-o", f"type=local,dest={room}/out", "-f", f"{room}/Dockerfile", context)
             done = self._call(*words, config=self._config(room, BuildOptions()), check=check)
             if done.returncode:
+                self.engine.version()  # else it is the daemon that is gone
                 raise FarmFault(f"BuildKit can't mount caches: {why(done)}")
             with open(f"{room}/out/told") as told:
                 rows = [line.split() for line in told]

@@ -11,8 +11,9 @@ import os
 import signal
 import socket
 from typing import Any, Iterator
-from urllib.parse import quote
+from urllib.parse import quote, urlencode
 
+from agent.build.builder import is_for
 from agent.faults import FarmFault
 
 UNIX = "unix://"
@@ -36,20 +37,20 @@ class Engine:
     def __init__(self, host: str) -> None:
         self.host = host
 
-    def ask(self, path: str) -> Any:
-        """What the daemon has at a path of its API; none where it has nothing there."""
+    def ask(self, path: str, method: str = "GET") -> Any:
+        """What the daemon has at a path of its API, or makes of it; none where it has nothing there."""
         link = _Link(self.host.removeprefix(UNIX))
         try:
-            link.request("GET", path)
+            link.request(method, path)
             answer = link.getresponse()
-            told = json.loads(answer.read())
+            told = json.loads(answer.read() or "{}")
         except (OSError, http.client.HTTPException, ValueError) as fault:
             raise FarmFault(f"no Docker daemon answers at {self.host}: {getattr(fault, 'strerror', None) or fault}") from None
         finally:
             link.close()
         if answer.status == 404:
             return None
-        if answer.status != 200:
+        if answer.status not in (200, 201):
             raise FarmFault(f"the Docker daemon at {self.host} refused {path}: {told.get('message', answer.status)}")
         return told
 
@@ -62,10 +63,19 @@ class Engine:
         """Whether an image has a tag."""
         return bool((self.ask(f"/images/{quote(image, safe='/:@')}/json") or {}).get("RepoTags"))
 
-    def config_of(self, image: str) -> dict[str, Any] | None:
-        """What an image that the daemon has says of its containers."""
-        told = self.ask(f"/images/{quote(image, safe='/:@')}/json")
-        return None if told is None else dict(told.get("Config") or {})
+    def tag(self, image: str, tag: str) -> None:
+        name, _, version = tag.rpartition(":")
+        if not name or "/" in version:  # it is a registry's port
+            name, version = tag, "latest"
+        if self.ask(f"/images/{quote(image, safe='/:@')}/tag?{urlencode({'repo': name, 'tag': version})}", "POST") is None:
+            raise FarmFault(f"the image {image} can't be tagged {tag}: it is gone")
+
+    def config_of(self, image: str, platform: str | None = None) -> dict[str, Any] | None:
+        """What an image that the daemon has, for this platform, says of its containers."""
+        told = self.ask(f"/images/{quote(image, safe='/:@')}/json") or {}
+        if not told or not is_for(platform, *(told.get(key) or "" for key in ("Os", "Architecture", "Variant"))):
+            return None
+        return dict(told.get("Config") or {})
 
     def records_of(self, identifier: str) -> list[str]:
         """The records of a cache mount, where the daemon tells ids (since 23.0)."""

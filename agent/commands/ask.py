@@ -5,6 +5,7 @@ Owes the filters nothing.
 from __future__ import annotations
 
 import argparse
+import contextlib
 import json
 import os
 import subprocess
@@ -16,11 +17,15 @@ from agent.commands.run import node_sockets
 from agent.faults import FAULT, FarmFault, UsageFault, show, tell
 from agent.service import client
 from agent.service.carried import plain
-from agent.service.operators import LogRequest, LostRequest, PruneRequest, RetireRequest, Status, StatusRequest, Versions, WithdrawRequest
-from agent.service.requests import Digests, ForgetRequest, Forgotten, NeededRequest, StorePlace, StoreRequest
+from agent.service.operators import (
+    Counted, CountsRequest, HistoryRequest, LogRequest, LostRequest, Past, PruneRequest, RetireRequest, Status, StatusRequest, Version, Versions,
+    WithdrawRequest,
+)
+from agent.service.requests import StorePlace, StoreRequest
 from agent.words import version_of
 
 if TYPE_CHECKING:
+    from agent.counts import Sample
     from agent.store.folder import Store
 
 LAST = 3  # versions of a folder that `status --json` and the page tell
@@ -57,6 +62,8 @@ def do_status(args: argparse.Namespace) -> int:
         show(f"node {each.node} {what} {_ago(each.since)}")
     for folder in told.folders:
         show(f"{folder.slot} is at version {folder.version}")
+    if told.folders:
+        show(f"{told.versions} versions in all, in a record of {told.record / 1e6:.1f} MB")
     for node in told.gone:
         show(f"node {node} was retired")
     if not told.leases and not told.waiting and not told.snapshots:
@@ -70,20 +77,48 @@ def do_web(args: argparse.Namespace) -> int:
     def read() -> Status:
         return client.told_at(coordinator_of(args), StatusRequest(last=LAST), Status, shows=False)
 
-    return web.serve(args.address, args.port, read)
+    def past(after: int) -> Past:
+        return client.told_at(coordinator_of(args), HistoryRequest(after=after), Past, shows=False)
+
+    return web.serve(args.address, args.port, web.Sources(read, past, lambda: counted(args.home)))
+
+
+def counted(home: str) -> tuple[Sample, ...]:
+    """What the agents of this machine counted, each process once."""
+    found = dict[int, Counted]()
+    for path in (f"{home}/coordinator.sock", *node_sockets(home)):
+        with contextlib.suppress(FarmFault):  # also where an older version of it runs
+            told = client.told_at(path, CountsRequest(), Counted, shows=False)
+            found.setdefault(told.process, told)
+    return tuple(sample for told in found.values() for sample in told.samples)
 
 
 def do_log(args: argparse.Namespace) -> int:
     if not args.lost and not args.folder:
         raise UsageFault("farm log wants a folder, as farm log locked:ccache")
     told = client.told_at(coordinator_of(args), log_of(args, args.folder), Versions)
+    if not told.slots and not args.lost:
+        raise FarmFault(f"{args.folder} has no version")
+    if args.json:
+        show(json.dumps(plain(told.slots), indent=2))
+        return 0
     for slot, versions in told.slots.items():
         for version in versions:
             how = "lost" if args.lost else f"ticket {version.ticket}"
-            show(f"{slot} version {version.version} {how} {version.digest}{version.note and ' '}{version.note}")
-    if not told.slots and not args.lost:
-        raise FarmFault(f"{args.folder} has no version")
+            show(" ".join(filter(None, (f"{slot} version {version.version} {how} {version.digest}", past_of(version), version.note))))
     return 0
+
+
+def past_of(version: Version) -> str:
+    """What the history has of a version, in words."""
+    if version.at is None:
+        return ""
+    from agent.commands.past import clock, size_words
+
+    where = f"node {version.node}" if version.node else "pruned"
+    by = f"by {version.who}" if version.who else ""
+    held = f"held {version.held:.1f} s" if version.held is not None else ""
+    return " ".join(filter(None, (clock(version.at), where, by, size_words(version.files, version.size), held)))
 
 
 def log_of(args: argparse.Namespace, folder: str | None) -> LogRequest | LostRequest:
@@ -116,9 +151,11 @@ def do_get(args: argparse.Namespace) -> int:
 def store_at(home: str, place: StorePlace) -> Store:
     """The store of a farm of this machine."""
     from agent.store.opened import open_store
-    from agent.transport.hints import Hints
+    from agent.transport.keys import key_of
+    from agent.transport.redis_wire import signed_in
 
-    return open_store(home, place.broker, place.contents, Hints(f"{home}/key"))
+    key = key_of(home)
+    return open_store(home, place.broker and signed_in(place.broker, key.password()), place.contents, key.names)
 
 
 def do_withdraw(args: argparse.Namespace) -> int:
@@ -129,50 +166,25 @@ def do_retire(args: argparse.Namespace) -> int:
     return operate(args, RetireRequest(node=args.node, is_gone=args.gone, is_last_too=args.yes))
 
 
+def do_expel(args: argparse.Namespace) -> int:
+    return operate(args, RetireRequest(node=args.node, is_gone=True, is_last_too=True))
+
+
 def do_prune(args: argparse.Namespace) -> int:
     return operate(args, PruneRequest(folder=args.folder))
 
 
 def do_gc(args: argparse.Namespace) -> int:
     """On the coordinator's machine all that the farm keeps; on another one what its own nodes have."""
-    from agent.store.folder import FolderStore
-    from agent.store.redis import RedisStore
+    from agent.service.forgetting import Rule, alone, collect
 
-    if args.keep < 1:
-        raise UsageFault("the last version of a folder is always kept: --keep is at least 1")
-    nodes = list(node_sockets(args.home))
-    is_coordinators = client.is_there(coordinator_of(args)) or not nodes
-    path = coordinator_of(args) if is_coordinators else nodes[0]
-    kept, begun = client.told_at(path, StoreRequest(), StorePlace), time.monotonic()
-
-    def needed() -> set[str]:
-        return set(client.told_at(path, NeededRequest(keep=args.keep), Digests).digests)
-
-    def grace() -> float:
-        return float(args.grace + time.monotonic() - begun)
-
-    forgets = ForgetRequest(needed=tuple(sorted(needed())), grace=grace())
-    contents = sum(client.told_at(node, forgets, Forgotten).contents for node in nodes)
-    store, unreadable = store_at(args.home, kept), set[str]()
-    if is_coordinators and isinstance(store, RedisStore):
-        indexes, chunks = store.forget(needed, grace(), unreadable.add)
-        show(f"Redis forgot {indexes} indexes and {chunks} chunks")
-    folder = store.folder if isinstance(store, RedisStore) else store
-    assert isinstance(folder, FolderStore)
-    is_ours = is_coordinators or not kept.contents  # a folder that all see is the coordinator's business
-    is_known = folder is store  # of what Redis has a machine's own folder need not have all
-    indexes, chunks = folder.forget(needed, grace(), unreadable.add if is_known else lambda digest: None) if is_ours else (0, 0)
-    show(f"forgot {contents} contents of nodes, {indexes} indexes and {chunks} chunks")
-    return _tell_unreadable(path, args.keep, unreadable) if is_coordinators else 0
-
-
-def _tell_unreadable(path: str, keep: int, digests: set[str]) -> int:
-    """Names the versions that gc couldn't read. The status is that of a fault, where there are any."""
-    folders = client.told_at(path, StatusRequest(last=keep), Status).folders if digests else ()
-    for digest in sorted(digests):
-        names = [f"{each.slot} version {version.version}" for each in folders for version in each.versions if version.digest == digest]
-        tell(
-            f"the content {digest} of {', '.join(names) or 'a live lease'} can't be read, so no chunk that may be its own is forgotten: run a command on "
-            "that folder, which asks the other nodes for it, or farm prune it"
-        )
-    return FAULT if digests else 0
+    with alone(args.home, waits=True) if os.path.isdir(args.home) else contextlib.nullcontext():
+        done = collect(args.home, Rule(keep=args.keep, grace=args.grace), list(node_sockets(args.home)), lambda place: store_at(args.home, place))
+    for each in done.stores:
+        if each.is_shared:
+            show(f"{each.name} forgot {each.indexes} indexes and {each.chunks} chunks")
+    own = [each for each in done.stores if not each.is_shared]
+    show(f"forgot {done.contents} contents of nodes, {sum(each.indexes for each in own)} indexes and {sum(each.chunks for each in own)} chunks")
+    for text in done.unreadable:
+        tell(text)
+    return FAULT if done.unreadable else 0

@@ -30,22 +30,22 @@ def request_of(args: argparse.Namespace) -> BuildRequest:
     for name in () if is_docker else OF_DOCKER:
         if getattr(args, name):
             raise UsageFault(f"--{name.replace('_', '-')} is Docker's: it goes with --builder docker")
-    if not is_docker and args.network not in (None, "host"):
-        raise UsageFault(f"--network {args.network} is Docker's: buildah's steps have this machine's network")
     if args.platform and "," in args.platform:
         raise UsageFault(f"--platform {args.platform}: one lease builds for one platform")
     if is_docker and args.format:
         raise UsageFault("--format is buildah's: the Docker daemon chooses it")
+    if is_docker and args.layers:
+        raise UsageFault("--layers is buildah's: Docker's BuildKit caches instructions by itself")
     given = [word.partition("=") for word in args.build_arg]
     return BuildRequest(
         cwd=own_folder(), context=os.path.abspath(args.context), file=args.file, tags=tuple(args.tag), push=args.push, target=args.target,
         build_args={key: value if equals else os.environ[key] for key, equals, value in given if equals or key in os.environ},
-        format=args.format, wait=args.wait, stops_when_lost=args.on_lost == "stop", shared_as=tuple(args.shared_as),
+        format=args.format, wait=args.wait, must_commit=args.must_commit, stops_when_lost=args.on_lost == "stop", shared_as=tuple(args.shared_as),
         keep_failed=args.keep_failed, tag_fenced=args.tag_fenced, env=passed_on(args),
-        on_conflict=args.on_conflict, tells_conflicts=args.verbose, is_warm=args.warm,
+        on_conflict=args.on_conflict, tells_conflicts=args.verbose, is_warm=args.warm, who=args.who or "",
         builder=args.builder, daemon=daemon() if is_docker else "", shares_daemon=args.shares_daemon,
         options=BuildOptions(
-            network=args.network, progress=args.progress, platform=args.platform, quiet=args.quiet, no_cache=args.no_cache, pull=args.pull,
+            network=args.network, progress=args.progress, platform=args.platform, quiet=args.quiet, layers=args.layers, no_cache=args.no_cache, pull=args.pull,
             secrets=tuple(args.secret), ssh=tuple(args.ssh), cache_from=tuple(args.cache_from), contexts=tuple(args.build_context),
             logins=logins(is_docker),
         ),
@@ -63,6 +63,8 @@ def take_built(args: argparse.Namespace, asked: Asked) -> int:
     if args.iidfile and isinstance(asked.told, Built):
         with open(args.iidfile, "w") as file:
             file.write(asked.told.image)
+    if args.quiet and args.builder == "buildah" and isinstance(asked.told, Built):
+        print(asked.told.image)  # beside an iidfile, as the agent has it, buildah doesn't
     return asked.status
 
 

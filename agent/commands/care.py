@@ -40,6 +40,18 @@ def do_put(args: argparse.Namespace) -> int:
         shutil.rmtree(room, ignore_errors=True)
 
 
+def do_restore(args: argparse.Namespace) -> int:
+    """Makes a folder's next version what an earlier one held."""
+    from agent.commands.ask import do_get
+
+    folder, _, number = args.version.rpartition("@")
+    if not folder or not number.isdecimal():
+        raise UsageFault(f"{args.version} names no version: FOLDER@NUMBER")
+    with tempfile.TemporaryDirectory(prefix="farm-restore-") as room:
+        do_get(argparse.Namespace(home=args.home, folder=args.version, to=f"{room}/held", lost=False))
+        return do_put(argparse.Namespace(home=args.home, node=args.node, wait=args.wait, folder=folder, source=f"{room}/held"))
+
+
 KEPT = ("key", "record", "record.log", "known", "lost")  # of a coordinator's home: without these the farm can't go on as it was
 TRIES = 100  # to read the record and its log together
 
@@ -152,7 +164,17 @@ def _look_at_kernel(home: str) -> Iterator[Finding]:
     yield Finding("pid and mount namespaces", "" if can_have_namespaces() else "commands can outlive their agent, and no SHARED folder can be used: run it as root", is_warning=True)
 
 
+def _look_at_isolation(home: str) -> Iterator[Finding]:
+    from agent.build import isolation
+
+    if shutil.which("buildah"):
+        here = isolation.found()
+        yield Finding("how buildah's steps are kept apart", "" if here.is_wall else str(here), is_warning=True)
+
+
 def _look_at_home(home: str) -> Iterator[Finding]:
+    from agent.transport.keys import FARM_NAME, NODE_NAME
+
     if not os.path.isdir(home):
         yield Finding(f"the home {home}", "there is none yet: farm up, node or run makes it", is_warning=True)
         return
@@ -161,11 +183,11 @@ def _look_at_home(home: str) -> Iterator[Finding]:
     yield Finding(f"room for {home}: {free}", "make room, as farm gc does" if disk.free < LOW * disk.total else "", is_warning=True)
     status = os.stat(home)
     yield Finding(f"who may enter {home}", f"others may: chmod o-rwx {home}" if status.st_mode & 0o007 else "")
-    key = f"{home}/key"
-    if not os.path.exists(key):
-        yield Finding("the farm's key", f"{key} is missing: copy it from the coordinator's machine", is_warning=not os.path.exists(f"{home}/joined"))
-    else:
-        yield Finding("the farm's key", f"others may read it: chmod 600 {key}" if os.stat(key).st_mode & 0o077 else "")
+    keys = [path for path in (f"{home}/{FARM_NAME}", f"{home}/{NODE_NAME}") if os.path.exists(path)]
+    if not keys:
+        yield Finding("the key", f"{home} has none: farm key N FILE on the coordinator's machine writes it", is_warning=not os.path.exists(f"{home}/joined"))
+    for path in keys:
+        yield Finding(f"the key {path}", f"others may read it: chmod 600 {path}" if os.stat(path).st_mode & 0o077 else "")
 
 
 def _look_at_farm(home: str) -> Iterator[Finding]:
@@ -198,4 +220,4 @@ def _store(home: str, place: StorePlace) -> Finding:
         return Finding(what, str(fault))
 
 
-LOOKS: tuple[Callable[[str], Iterator[Finding]], ...] = (_look_at_tools, _look_at_kernel, _look_at_home, _look_at_farm)
+LOOKS: tuple[Callable[[str], Iterator[Finding]], ...] = (_look_at_tools, _look_at_kernel, _look_at_isolation, _look_at_home, _look_at_farm)

@@ -7,9 +7,10 @@ import signal
 import sys
 from typing import Iterator, Sequence
 
-from agent.commands.parser import parser
+from agent.commands.parser import parsed
 from agent.commands.serve import do_coordinator, do_node, do_up
 from agent.faults import FAULT, LOST, FarmFault, sentence, tell
+from agent.words import is_bucket
 
 
 def open_streams() -> None:
@@ -51,12 +52,12 @@ def interrupted() -> Iterator[None]:
 
 def status_of(words: Sequence[str] | None) -> int:
     try:
-        args = parser().parse_args(words)
+        args = parsed(words)
     except SystemExit as ended:
         return 64 if ended.code else 0
     try:
         args.home = os.path.abspath(args.home)
-        if getattr(args, "contents", None):
+        if getattr(args, "contents", None) and not is_bucket(args.contents):
             args.contents = os.path.abspath(args.contents)
         with contextlib.nullcontext() if args.does in (do_up, do_coordinator, do_node) else interrupted():
             return int(args.does(args))

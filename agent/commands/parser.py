@@ -7,15 +7,19 @@ from __future__ import annotations
 import argparse
 import math
 import os
-from typing import Any, Callable
+import time
+from typing import Any, Callable, Sequence
 
 from agent.faults import FarmFault, show
 from agent.commands.run import SERVED, do_build, do_run
 from agent.commands.serve import do_coordinator, do_node, do_up
-from agent.words import USES
+from agent.words import USES, who_of
 
 ENDS = """statuses: the command's or builder's own; 64 wrong words; 65 a Dockerfile that can't be built under leases; 69 a program is missing;
 70 a fault; 75 the lease wasn't granted in time, or what was left doesn't count; 76 a build whose lease had ended"""
+
+UNITS = {"s": 1, "m": 60, "h": 3600, "d": 86_400}  # seconds
+SIZES = {"k": 10**3, "M": 10**6, "G": 10**9, "T": 10**12}  # bytes
 
 
 def default_home() -> str:
@@ -40,6 +44,17 @@ def parser() -> argparse.ArgumentParser:
     return top
 
 
+def parsed(words: Sequence[str] | None) -> argparse.Namespace:
+    """The words of a call. A FILE that needn't be there is read behind options too, where argparse leaves it over."""
+    made = parser()
+    args, left = made.parse_known_args(words)
+    if args.verb == "key" and args.to is None and len(left) == 1 and (left == ["-"] or left[0][:1] not in ("", "-")):
+        args.to, left = left[0], []
+    if left:
+        made.error(f"unrecognized arguments: {' '.join(left)}")
+    return args
+
+
 class Version(argparse.Action):
     """Says the version, and which program decides."""
 
@@ -61,6 +76,22 @@ def seconds(text: str) -> float:
     if not 0 <= float(text) < math.inf:
         raise ValueError
     return float(text)
+
+
+def duration(text: str) -> float:
+    """Seconds, or with a unit: s, m, h, d. Not none at all."""
+    found = seconds(text[:-1]) * UNITS[text[-1]] if text[-1:] in UNITS else seconds(text)
+    if found < 1:
+        raise ValueError
+    return found
+
+
+def size(text: str) -> int:
+    """Bytes, or with a unit: k, M, G, T, of a thousand each."""
+    found = float(text[:-1]) * SIZES[text[-1]] if text[-1:] in SIZES else float(text)
+    if not 1 <= found < 2**63:
+        raise ValueError
+    return int(found)
 
 
 def node(text: str) -> int:
@@ -88,6 +119,26 @@ def path(text: str) -> str:
     if not text:
         raise ValueError
     return text
+
+
+def word(text: str) -> str:
+    """Whose a command is."""
+    if not text or who_of(text) != text:
+        raise argparse.ArgumentTypeError(f"a word has at most 64 characters, all of them printable ASCII and none a space, and not {text!r:.80}")
+    return text
+
+
+def moment(text: str) -> float:
+    """A time of day: as a date, or as how long ago it was."""
+    units = {"s": 1, "m": 60, "h": 3600, "d": 86400}
+    if text[:-1].isdecimal() and text[-1:] in units:
+        return time.time() - int(text[:-1]) * units[text[-1]]
+    from datetime import datetime
+
+    try:
+        return datetime.fromisoformat(text).timestamp()
+    except (ValueError, OverflowError):
+        raise argparse.ArgumentTypeError(f"a time is written as 90m, 2h, 3d or 2026-05-01T10:00, and not {text!r:.80}") from None
 
 
 def _asks(name: str, module: str = "ask") -> Callable[[argparse.Namespace], int]:
@@ -118,12 +169,21 @@ def _serving_words(verbs: Any) -> None:
     one.add_argument("number", type=node, metavar="N")
     for made in (up, coordinator, one):
         made.add_argument("--nodes", type=node, default=3, help="how many nodes the farm has (%(default)s)")
-        made.add_argument("--contents", type=path, metavar="FOLDER", help="where contents are kept: a folder that all machines see")
+        made.add_argument("--contents", type=path, metavar="PLACE", help="where contents are kept: a folder that all machines see, or s3://BUCKET/PREFIX")
         made.add_argument("--group", metavar="NAME", help="whose members may use the farm too, as good as root where root serves it")
-        made.add_argument("--verbose", action="store_true", help="says what the filters answer")
+        made.add_argument("--verbose", action="store_true", help="logs what the filters answer too")
+        made.add_argument("--log-json", action="store_true", help="logs each event as an object of JSON")
+        _forgetting_words(made)
+    for made in (up, one):
+        made.add_argument(
+            "--isolation", choices=["oci", "chroot"], help="how buildah's steps are kept apart (oci where crun or runc works, else chroot, which is no wall)"
+        )
     for made in (up, coordinator):
         made.add_argument(
             "--restored", action="store_true", help="vouches for a record that is older than the farm: begins a new generation, with a new key"
+        )
+        made.add_argument(
+            "--most-asks", type=ticket, default=4096, metavar="M", help="how many leases, and asks that wait, one node may have at once (%(default)s)"
         )
         made.add_argument(
             "--lease-timeout", type=seconds, metavar="SECONDS", help="withdraws the leases of a node that wasn't heard for so long"
@@ -131,6 +191,14 @@ def _serving_words(verbs: Any) -> None:
     for made in (coordinator, one):
         broker = os.environ.get("FARM_BROKER")
         made.add_argument("--broker", default=broker, required=not broker, metavar="redis://..", help="Redis (or FARM_BROKER, which others don't see)")
+
+
+def _forgetting_words(made: argparse.ArgumentParser) -> None:
+    made.add_argument("--gc-every", type=duration, metavar="TIME", help="forgets by itself what nothing needs, so often: seconds, or 30m, 1h, 1d")
+    made.add_argument("--keep", type=int, metavar="K", help="and keeps the last K versions of each folder (1)")
+    made.add_argument("--keep-days", type=seconds, metavar="D", help="and what is younger")
+    made.add_argument("--most-bytes", type=size, metavar="SIZE", help="but in a store of more, as 50G, the oldest goes before that, as far as --keep lets it")
+    made.add_argument("--grace", type=seconds, default=3600, metavar="SECONDS", help="never what is younger (%(default)s)")
 
 
 def _run_words(verbs: Any) -> None:
@@ -144,17 +212,18 @@ def _run_words(verbs: Any) -> None:
     run.add_argument("--wait", type=seconds, metavar="SECONDS", help="waits no longer for the lease, and for 0 only takes what is free: else the status is 75")
     run.add_argument("--must-commit", action="store_true", help="status 75 where what the command left doesn't count")
     run.add_argument("--on-lost", choices=["stop", "go-on"], default="go-on", help="what a command does whose lease has ended")
-    _merged_words(run)
+    _common_words(run)
     run.add_argument("command", nargs=argparse.REMAINDER, metavar="COMMAND")
 
 
-def _merged_words(made: argparse.ArgumentParser) -> None:
+def _common_words(made: argparse.ArgumentParser) -> None:
     made.add_argument(
         "--on-conflict", choices=["newer", "theirs", "mine", "fail"], default="newer",
         help="whose a path of a merged folder is that others changed meanwhile too (%(default)s); fail: nothing counts, and the status is 75",
     )
     made.add_argument("--verbose", action="store_true", help="tells each such path")
     made.add_argument("--warm", action="store_true", help="a new private folder begins as the last version of any of its name")
+    made.add_argument("--as", type=word, dest="who", metavar="WORD", help="whose it is, for farm history (a CI's job, else user@machine)")
 
 
 def _build_words(verbs: Any) -> None:
@@ -174,15 +243,17 @@ def _build_words(verbs: Any) -> None:
     for name in ("--no-cache", "--pull", "--push"):
         build.add_argument(name, action="store_true", help="as of docker build")
     build.add_argument("-q", "--quiet", action="store_true", help="shows the image's id alone")
+    build.add_argument("--layers", action="store_true", help="buildah caches instructions, but for those after a RUN with a cache mount")
     build.add_argument("--iidfile", type=path, metavar="FILE", help="writes the image's id there")
     for name in ("--secret", "--ssh", "--cache-from", "--build-context"):
         build.add_argument(name, action="append", default=[], help="as of docker build")
     build.add_argument("--wait", type=seconds, metavar="SECONDS")
+    build.add_argument("--must-commit", action="store_true", help="waits until what it left in shared folders that others use too counts: else status 75")
     build.add_argument("--on-lost", choices=["stop", "go-on"], default="go-on")
     build.add_argument("--shared-as", type=shared_as, action="append", default=[], metavar="[ID=]MODE", help="treats shared mounts so, or those of one id")
     build.add_argument("--keep-failed", action="store_true", help="commits also what a failed build left")
     build.add_argument("--tag-fenced", action="store_true", help="tags the image also where the lease had ended")
-    _merged_words(build)
+    _common_words(build)
     build.add_argument("context", type=path)
 
 
@@ -194,7 +265,15 @@ def _asking_words(verbs: Any) -> None:
     web.add_argument("--address", default="127.0.0.1", help="the address that it listens at (%(default)s): who reaches it may read all")
     log = _verb(verbs, "log", _asks("do_log"), "the versions of a folder", "farm log locked:ccache")
     log.add_argument("folder", nargs="?")
+    log.add_argument("--json", action="store_true")
     log.add_argument("--lost", action="store_true", help="what generations before this one had beyond the record")
+    past = _verb(verbs, "history", _asks("do_history", "past"), "what came to pass: asks, leases, commits, and what didn't count", "farm history --since 2h locked:ccache")
+    past.add_argument("folder", nargs="?")
+    past.add_argument("--json", action="store_true", help="one object a line")
+    past.add_argument("--since", type=moment, metavar="WHEN", help="as 90m, 2h, 3d or 2026-05-01T10:00")
+    past.add_argument("--node", type=node, metavar="N", help="what one node did")
+    why = _verb(verbs, "why", _asks("do_why", "past"), "who has a folder, who waits for whom, and how long that usually takes", "farm why locked:ccache")
+    why.add_argument("folder")
     get = _verb(verbs, "get", _asks("do_get"), "what a version holds, without a lease", "farm get locked:ccache@3 third")
     get.add_argument("folder", metavar="FOLDER[@NUMBER]")
     get.add_argument("--lost", action="store_true", help="of what farm log --lost shows")
@@ -205,18 +284,38 @@ def _asking_words(verbs: Any) -> None:
     retire.add_argument("node", type=node, metavar="N")
     retire.add_argument("--gone", action="store_true", help="the node is gone for good: you vouch that all it ran is over")
     retire.add_argument("--yes", action="store_true", help="also where no other node is left")
+    expel = _verb(
+        verbs, "expel", _asks("do_expel"), "puts out a node that was taken over: its leases end, and nothing that it says counts any more", "farm expel 3"
+    )
+    expel.add_argument("node", type=node, metavar="N")
     put = _verb(verbs, "put", _asks("do_put", "care"), "makes a folder's next version what DIR holds", "farm put locked:ccache ~/.ccache")
     put.add_argument("folder")
     put.add_argument("source", type=path, metavar="DIR")
     put.add_argument("--node", type=node, metavar="N")
     put.add_argument("--wait", type=seconds, metavar="SECONDS")
+    restore = _verb(
+        verbs, "restore", _asks("do_restore", "care"), "makes a folder's next version what an earlier one held", "farm restore locked:ccache@17"
+    )
+    restore.add_argument("version", metavar="FOLDER@NUMBER")
+    restore.add_argument("--node", type=node, metavar="N")
+    restore.add_argument("--wait", type=seconds, metavar="SECONDS")
     _verb(verbs, "doctor", _asks("do_doctor", "care"), "says what of this machine and its farm isn't well, and how to mend it", "farm doctor")
+    key = _verb(verbs, "key", _asks("do_key", "keys"), "writes the key of a node, on the coordinator's machine", "farm key 2 node2.key")
+    key.add_argument("node", type=node, metavar="N")
+    key.add_argument("to", type=path, nargs="?", metavar="FILE", help="or - for the standard output")
+    key.add_argument("--replace", action="store_true", help="in a node's home: puts it in the place of the farm's key")
+    users = _verb(
+        verbs, "broker-users", _asks("do_broker_users", "keys"), "prints what Redis's file of users wants: one for each node", "farm broker-users >>users.acl"
+    )
+    users.add_argument("--nodes", type=node, default=3, help="how many nodes the farm has (%(default)s)")
     backup = _verb(
         verbs, "backup", _asks("do_backup", "care"), "copies the coordinator's key and record into a file, while it runs", "farm backup farm.tar"
     )
     backup.add_argument("to", metavar="FILE")
     prune = _verb(verbs, "prune", _asks("do_prune"), "makes a folder's next version the empty one", "farm prune locked:ccache")
     prune.add_argument("folder")
+    du = _verb(verbs, "du", _asks("do_du", "sizes"), "how much room the versions of each folder take", "farm du --json")
+    du.add_argument("--json", action="store_true")
     gc = _verb(verbs, "gc", _asks("do_gc"), "forgets what nothing needs, on this machine", "farm gc --keep 3")
     gc.add_argument("--keep", type=int, default=1, metavar="K", help="keeps the last K versions of each folder (%(default)s)")
     gc.add_argument("--grace", type=seconds, default=3600, metavar="SECONDS", help="keeps what is younger (%(default)s)")

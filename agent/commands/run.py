@@ -8,14 +8,15 @@ import argparse
 import contextlib
 import fcntl
 import os
+import pwd
 import sys
 import time
 from typing import Iterator
 
 from agent.faults import MISSING, USAGE, FarmFault, UsageFault, tell
 from agent.service import client
-from agent.service.requests import NodeRequest, NodeWasRetired, RunRequest
-from agent.words import want_of
+from agent.service.requests import BuildRequest, NodeRequest, NodeWasRetired, RunRequest
+from agent.words import want_of, who_of
 
 SERVED = "/var/lib/farm"  # where the units of the package have their homes
 LOG_MOST = 8 << 20  # bytes of the log of farms that commands start: a longer one is put aside, in place of the one before it
@@ -106,6 +107,8 @@ def ask_node(home: str, node: int | None, request: NodeRequest) -> int:
 
 def ask_for(home: str, node: int | None, request: NodeRequest) -> client.Asked:
     """Asks a node, and starts a farm for it where none runs here."""
+    if isinstance(request, (RunRequest, BuildRequest)) and not request.who:
+        request = request._replace(who=who_of(own_word()))
     for turn in range(6):
         with contextlib.suppress(client.NoFarm):
             if asked := ask_running(home, node, request):
@@ -133,6 +136,22 @@ def own_environment() -> dict[str, str]:
     return others | {"LC_CTYPE": os.fsdecode(value) for value in given}
 
 
+def own_word() -> str:
+    """Whose a command is, as the history names him: a CI's job, else the user and the machine."""
+    env = os.environ
+    if env.get("GITHUB_RUN_ID"):
+        return f"github:{env['GITHUB_RUN_ID']}/{env.get('GITHUB_JOB', '')}"
+    if env.get("CI_JOB_ID"):
+        return f"gitlab:{env['CI_JOB_ID']}"
+    if env.get("BUILD_TAG"):
+        return env["BUILD_TAG"]
+    try:
+        user = pwd.getpwuid(os.getuid()).pw_name
+    except KeyError:
+        user = str(os.getuid())
+    return f"{user}@{os.uname().nodename}"
+
+
 def own_umask() -> int:
     os.umask(mask := os.umask(0o077))
     return mask
@@ -147,7 +166,7 @@ def do_run(args: argparse.Namespace) -> int:
     return ask_node(args.home, args.node, RunRequest(
         command=tuple(command), folders=tuple(args.folder), cwd=own_folder(), env=own_environment(), umask=own_umask(),
         wait=args.wait, must_commit=args.must_commit, stops_when_lost=args.on_lost == "stop",
-        on_conflict=args.on_conflict, tells_conflicts=args.verbose, is_warm=args.warm,
+        on_conflict=args.on_conflict, tells_conflicts=args.verbose, is_warm=args.warm, who=args.who or "",
     ))
 
 

@@ -10,13 +10,19 @@ from agent.faults import UsageFault
 
 
 def _serve(args: argparse.Namespace, coordinator: bool, nodes: list[int]) -> int:
+    from agent.service.forgetting import Rule
     from agent.service.serving import Wanted, serve
 
+    if args.gc_every is None and (args.keep, args.keep_days, args.most_bytes) != (None, None, None):
+        raise UsageFault("--keep, --keep-days and --most-bytes say what a farm forgets by itself: name --gc-every too, as in --gc-every 1h")
+    if args.keep is not None and args.keep < 1:
+        raise UsageFault("the last version of a folder is always kept: --keep is at least 1")
     return serve(Wanted(
         home=args.home, coordinator=coordinator, nodes=tuple(nodes), most=args.nodes, broker=getattr(args, "broker", None),
-        contents=args.contents, lease_timeout=getattr(args, "lease_timeout", None), verbose=args.verbose,
+        contents=args.contents, isolation=getattr(args, "isolation", None), lease_timeout=getattr(args, "lease_timeout", None), most_asks=getattr(args, "most_asks", 1), verbose=args.verbose,
         while_used=getattr(args, "while_used", False), group=args.group,
-        restored=getattr(args, "restored", False),
+        restored=getattr(args, "restored", False), log_json=args.log_json,
+        gc=Rule(keep=args.keep or 1, grace=args.grace, young=86_400 * (args.keep_days or 0), most=args.most_bytes, every=args.gc_every),
     ))
 
 

@@ -6,24 +6,31 @@ withdrawn too early costs its holder a build and nothing else, so the agent may 
 from __future__ import annotations
 
 import contextlib
-import tempfile
+import os
 import threading
 import time
 
 from agent.store.chunks import folder_size
-from agent.faults import FarmFault, LifeOver, UsageFault
-from agent.transport.hints import Hints
-from agent.filters.lines import Answer, Filter, FilterGone, Talk, line_of
+from agent.faults import FarmFault, LifeOver, UsageFault, tell
+from agent.logs import DEBUG, ERROR, NOTICE, WARNING
+from agent.transport.keys import FarmKey
+from agent.filters.bounds import MOST, Bounds
+from agent.filters.lines import Answer, Talk, line_of
+from agent.filters.measured import Measured
 from agent.transport.needs import parts
 from agent.filters.node import HEARTBEAT, Setup
 from agent.filters.snapshots import Merges, Snapshots
 from agent.filters.watch import Watch
+from agent.history.kept import History
+from agent.history.seen import Seen
 from agent.transport.local import COORDINATOR, address_of, node_address
 from agent.service.operators import FolderStatus, Lease, Status, Version, Waiting
 from agent.words import DIGEST, EMPTY, is_folder
 
 NUDGE_MOST = 15.0
 AT_ONCE = 64  # lines that are carried together
+LAST_LIFE = 2**64 - 2  # of a node, in which it is put out
+LIVES_MOST = 2**62  # lives of nodes, which begin with the seconds since 1970: in a later one a node that was taken over couldn't be put out
 SINCE_MOST = 65_536  # leases whose beginning is known
 LOOK_EVERY = 5.0  # seconds, of a node: from one look whether the leases of its commands live to the next
 SILENT_LEAST = 3 * HEARTBEAT  # seconds: a shorter silence says nothing
@@ -34,10 +41,20 @@ REFUSALS = {  # what people are told beside the name of one
 }
 
 
+def _has_early_life(line: str) -> bool:
+    """Whether a line is of a life that a node may come to."""
+    life = line.split(" ", 3)[2:3]
+    return not life or not life[0].isdecimal() or len(life[0]) <= 20 and int(life[0]) <= LIVES_MOST
+
+
 class CoordinatorAgent:
-    def __init__(self, setup: Setup, lease_timeout: float | None = None, nodes: int = 0, has_broker: bool = False) -> None:
+    def __init__(
+        self, setup: Setup, key: FarmKey, lease_timeout: float | None = None, nodes: int = 0, has_broker: bool = False, most_asks: int = MOST
+    ) -> None:
         self.setup, self.lease_timeout, self.nodes = setup, lease_timeout, nodes
-        self.hints = Hints(setup.key)
+        self.log = setup.log.of(part="coordinator")
+        self.measured = Measured(setup.counts, self.log)
+        self.key, self.hints = key, key.hints()
         # The thread that hears lines changes these, others read single values: `heard`, `spoke`, `left`, `looked`. `lock` has `since` and `last`.
         self.since: dict[int, float] = {}  # of a ticket: when this agent saw it granted
         self.heard: dict[int, float] = {}  # of a node: the time of day at which it was heard
@@ -47,22 +64,24 @@ class CoordinatorAgent:
         self.looked: dict[int, float] = {}  # of a node: when it was looked whether its leases live
         self.snapshots = Snapshots(SILENT_LEAST)
         self.merges = Merges(f"{setup.home}/merges")
+        self.history = History(f"{setup.home}/history", tell)
+        self.seen = Seen(self.history)
         self.begun = time.monotonic()
         self.lock = threading.Lock()
         self.telling = threading.Lock()
         self.watch = Watch(self, has_broker)
-        words = ["coordinator", "--record", f"{setup.home}/record", "--key", setup.key]
+        self.bounds = Bounds(most_asks, self._held_by)
+        words = ["coordinator", "--record", f"{setup.home}/record", "--key", key.path]
         self.talk = Talk("coordinator", [setup.program, *words], lambda: None, self.hear)
-
-    def log(self, text: str) -> None:
-        self.setup.log(f"coordinator: {text}")
 
     def hear(self, answer: Answer) -> None:
         words = answer.note.split(" ")
+        self.seen.hear(answer)
         if not answer.note.startswith(("granted before", "nudged", "started")):
             self._hear_grants(answer.sends)
         if words[0] not in ("nothing", "nudged", "status", "line", "needed"):
             self.log(answer.note[:160])
+        self.measured.answered(answer)
         for fact in answer.facts:
             self._hear_fact(fact.split(" "))
         for line in answer.sends:
@@ -75,6 +94,7 @@ class CoordinatorAgent:
         for line in lines:
             words = line.split(" ")
             if words[0] == "granted":
+                self.measured.granted(words)
                 with self.lock:
                     self.since[int(words[4])] = time.time()
                     while len(self.since) > SINCE_MOST:
@@ -82,11 +102,20 @@ class CoordinatorAgent:
 
     def _hear_fact(self, words: list[str]) -> None:
         if words[0] in ("ended", "outdated", "gone") and len(words) > 1:
-            node = words[2] if words[0] == "ended" else words[1]
-            self.log(" ".join(words))
-            self.setup.transport.send(node_address(node), self.hints.seal(" ".join(words)))
+            self._log_ending(words)
+            self.tell(int(words[2] if words[0] == "ended" else words[1]), " ".join(words))
         elif words[0] in ("restarted", "down"):
-            self.log(" ".join(words))
+            self.log(f"the record couldn't be saved: {' '.join(words)}", ERROR)
+
+    def _log_ending(self, words: list[str]) -> None:
+        if words[0] == "ended":
+            self.log("the lease was ended before its commit", NOTICE, node=int(words[2]), ticket=int(words[1]))
+        else:
+            self.log("a later life of it was heard" if words[0] == "outdated" else "it was retired, and isn't heard", DEBUG, node=int(words[1]))
+
+    def tell(self, node: int, text: str) -> None:
+        """A hint to a node."""
+        self.setup.transport.send(node_address(node), self.hints.seal(node, text))
 
     def call(self, line: str) -> Answer:
         return self.talk.call(line)
@@ -118,7 +147,7 @@ class CoordinatorAgent:
             except LifeOver:
                 delay = 1.0
             except Exception as fault:  # whatever was wrong with one line, the next one is heard
-                self.log(f"{type(fault).__name__}: {fault}")
+                self.log.fault(fault)
                 time.sleep(1.0)
 
     def _lines(self, timeout: float) -> list[str]:
@@ -137,14 +166,16 @@ class CoordinatorAgent:
             words = self.hints.open(line)
             if words:
                 self._hear_hint(words)
-            elif "\n" not in line and "\r" not in line and self.watch.may_pass(line):
+            elif "\n" not in line and "\r" not in line and _has_early_life(line) and self.bounds.may_pass(line) and self.watch.may_pass(line):
                 passed.append(line)
         passed += self.watch.freed()
         self.watch.check()
         notes = [answer.note for answer in self.talk.calls([f"m {line}" for line in passed])] if passed else []
         for line, note in zip(passed, notes):
+            self.measured.heard(line, note)
             if not note.startswith(("dropped", "refused")):
                 self._was_heard(int(line.split(" ", 2)[1]))
+                self.seen.take(line, note)
         return notes
 
     def _was_heard(self, node: int) -> None:
@@ -156,17 +187,18 @@ class CoordinatorAgent:
             if words[2:]:
                 self._tell_ended(int(words[1]), {int(word) for word in words[2:]})
         self.watch.hear(words)
+        self.seen.hear_hint(words)
         if words[0] == "left":
             self.left[int(words[1])] = (int(words[2]), {int(word) for word in words[3:]})
         if words[0] == "who":
             node, ask, folders = int(words[1]), words[2], set(words[3:])
             with contextlib.suppress(FarmFault):  # while the coordinator refuses, nobody is told
                 held = self.holders(node, folders)
-                self.setup.transport.send(node_address(node), self.hints.seal(f"held {node} {ask} {held}"))
+                self.tell(node, f"held {node} {ask} {held}")
         if words[0] == "snapshots":
             self.snapshots.hear(words[1:])
         if words[0] == "merged":
-            self.merges.hear(words[1:])
+            self.merges.hear(words[2:])
         if words[0] == "last":
             self._tell_last(int(words[1]), words[2], words[3])
         if words[0] == "needs" and self.telling.acquire(blocking=False):  # one at a time: old questions come again too
@@ -178,7 +210,7 @@ class CoordinatorAgent:
             folders = [each for each in self.status().folders if slot in (each.slot, each.slot.partition("#")[0])]
             found = max(folders, key=lambda each: each.ticket, default=None)
             text = f"lastis {node} {word} {found.version} {found.digest}" if found else f"lastis {node} {word} 0 {EMPTY}"
-            self.setup.transport.send(node_address(node), self.hints.seal(text))
+            self.tell(node, text)
 
     def _tell_ended(self, node: int, tickets: set[int]) -> None:
         """Tells a node which of the leases that its commands run under are over: a restart tells it nobody, and what was told may be lost."""
@@ -188,18 +220,23 @@ class CoordinatorAgent:
         self.looked[node] = now
         with contextlib.suppress(FarmFault):
             for ticket in tickets - {lease.ticket for lease in self.status().leases}:
-                self.setup.transport.send(node_address(node), self.hints.seal(f"ended {ticket} {node}"))
+                self.tell(node, f"ended {ticket} {node}")
 
     def _tell_needed(self, node: int, word: str, keep: int) -> None:
         try:
             told = parts(self.needed(keep))
             for number, digests in enumerate(told):
                 text = " ".join(["needed", str(node), word, str(number), str(len(told)), *digests])
-                self.setup.transport.send(node_address(node), self.hints.seal(text))
+                self.tell(node, text)
         except FarmFault as fault:
-            self.log(f"node {node} asks what is needed: {fault}")
+            self.log(f"it isn't told what is needed: {fault}", WARNING, node=node)
         finally:
             self.telling.release()
+
+    def _held_by(self, node: int) -> int:
+        """How many live leases and asks that wait a node has."""
+        status = self.status()
+        return sum(lease.node == node for lease in status.leases) + sum(ask.node == node for ask in status.waiting)
 
     def holders(self, node: int, folders: set[str]) -> str:
         """Who has one of these folders, in words."""
@@ -217,8 +254,14 @@ class CoordinatorAgent:
         for lease in self.status().leases:
             silent = time.monotonic() - self.spoke.get(lease.node, self.begun)
             if silent > self.lease_timeout and lease.kind != "tenure":
-                self.log(f"node {lease.node} wasn't heard for {silent:.0f} s: its lease {lease.ticket} is withdrawn")
+                self.log(f"the node wasn't heard for {silent:.0f} s: its lease is withdrawn", WARNING, node=lease.node, ticket=lease.ticket)
                 self.call(line_of("withdraw", str(lease.ticket)))
+
+    def look_back(self) -> None:
+        """Takes up what an earlier agent of this home saw of the leases that live."""
+        self.seen.begin(self.status())
+        with self.lock:
+            self.since = self.seen.since() | self.since
 
     # What people ask.
 
@@ -234,20 +277,30 @@ class CoordinatorAgent:
             folders=tuple(self._folder(words, last) for words in of("last")), lives={words[0]: int(words[1]) for words in of("life")},
             gone=tuple(int(words[0]) for words in of("gone")), retired=tuple(words[0] for words in of("retired")),
             tickets=max((int(words[0]) for words in of("tickets")), default=0), heard={str(node): at for node, at in list(self.heard.items())},
-            now=time.time(), snapshots=self.snapshots.present(),
+            now=time.time(), snapshots=self.snapshots.present(), versions=sum(int(words[1].partition(":")[0]) for words in of("last")),
+            waited=self.measured.oldest({tuple(words[1:4]) for words in of("parked")}), record=self._record_size(),
         )
+
+    def _record_size(self) -> int:
+        """The bytes of the record and its log."""
+        found = 0
+        for name in ("record", "record.log"):
+            with contextlib.suppress(FileNotFoundError):
+                found += os.path.getsize(f"{self.setup.home}/{name}")
+        return found
 
     def _lease(self, words: list[str]) -> Lease:
         ticket, node, life, ask = (int(word) for word in words[:4])
         with self.lock:
             since = self.since.get(ticket)
-        return Lease(ticket=ticket, node=node, life=life, ask=ask, kind=words[4], slots=tuple(words[5:]), since=since)
+        return Lease(ticket=ticket, node=node, life=life, ask=ask, kind=words[4], slots=tuple(words[5:]), since=since, who=self.seen.who(ticket))
 
     def _waiting(self, words: list[str]) -> Waiting:
         node, life, ask = (int(word) for word in words[1:4])
         left_of, asks = self.left.get(node, (0, set()))
         left = life == left_of and ask in asks
-        return Waiting(kind=words[0], node=node, life=life, ask=ask, folders=tuple(words[4:]), left=left)
+        since, who = self.seen.asked(node, life, ask)
+        return Waiting(kind=words[0], node=node, life=life, ask=ask, folders=tuple(words[4:]), left=left, since=since, who=who)
 
     def _folder(self, words: list[str], last: int) -> FolderStatus:
         number, ticket, digest = words[1].split(":")
@@ -296,28 +349,21 @@ class CoordinatorAgent:
         if answer.is_refused:
             why = REFUSALS.get(answer.note.removeprefix("refused "))
             raise FarmFault(f"{' '.join(words)}: {answer.note}{f': {why}' if why else ''}")
+        if words[0] == "prune":
+            self.seen.pruned(words[1], int(answer.note.split(" ")[1]))
         return answer.note
 
     def retire(self, node: int, is_gone: bool, is_last_too: bool = False) -> str:
-        """Retires a node, and tells it. Of one that is gone for good a life from an empty store says Hello first, which ends its tenures:
-        whoever says that it is gone vouches that its executions are over."""
+        """Retires a node, and tells it. One that is gone for good, or was taken over, is put out with all that it has: whoever says so vouches
+        that its executions are over, or that what they do counts for nothing."""
         status = self.status()
         if not is_last_too and {*map(int, status.lives)} - {*status.gone} == {node}:
             raise UsageFault(f"node {node} is the last one that isn't retired, and no command runs without one: farm retire {node} --yes does it")
-        if is_gone:
-            with tempfile.TemporaryDirectory(dir=self.setup.home) as room:
-                words = ["node", "--node", str(node), "--nodes", "1024", "--store", f"{room}/filter", "--key", self.setup.key]
-                try:
-                    last = Filter([self.setup.program, *words])
-                except FilterGone as gone:
-                    raise FarmFault(f"no life of node {node} can be begun: {gone.said}") from None
-                try:
-                    self.talk.calls([f"m {line}" for line in last.greeting.sends])
-                finally:
-                    last.close()
+        if is_gone:  # a newer life ends all that the node was leased, its tenures too
+            self.talk.calls([f"m {self.key.of_node(node).seal(f'hello {node} {LAST_LIFE}')}"])
         try:
             done = self.operate("retire", str(node))
-            self.setup.transport.send(node_address(node), self.hints.seal(f"gone {node}"))
+            self.tell(node, f"gone {node}")
             return done
         except FarmFault as fault:
             if "TenureHeld" in str(fault) and not is_gone:
@@ -329,5 +375,6 @@ class CoordinatorAgent:
 
     def stop(self) -> None:
         self.talk.stop()
+        self.history.close()
         with contextlib.suppress(OSError):
             self.watch.knowledge.save(at_once=True)

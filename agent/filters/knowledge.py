@@ -1,6 +1,8 @@
 """What an agent knows of its farm: the greatest ticket that was granted, and the last versions of each slot. It is kept in the agent's home
 and told to others, so that a coordinator whose record is old, lost or a copy is noticed.
 
+What the coordinator told bears its proof, which a node hands back and can't make: so a node that was taken over stops no coordinator.
+
 Owes the filters nothing: it can only stop an agent.
 """
 from __future__ import annotations
@@ -15,6 +17,7 @@ from agent.faults import FarmFault
 from agent.store.lasting import put_file
 
 KEPT = 8  # versions of a slot
+PROOFS_MOST = 32  # of a slot: where there are more, those of what is no longer known go
 AT_ONCE, LONGEST = 500, 200_000  # slots of one line, and their characters
 SAVE_EVERY = 2.0  # seconds: it is kept at most so often, and only where it changed
 
@@ -29,12 +32,13 @@ class Knowledge:
         self.lock = threading.Lock()
         self.ticket = 0
         self.versions: Versions = {}
+        self.proofs: dict[str, str] = {}  # of words: what shows that the coordinator said them
         self.is_changed, self.saved = False, 0.0
         known = loaded(path)
         if known and known.of != generation:
             os.replace(path, f"{path}.{known.of}")
         elif known:
-            self.ticket, self.versions = known.ticket, known.versions
+            self.ticket, self.versions, self.proofs = known.ticket, known.versions, known.proofs
 
     def take_ticket(self, ticket: int) -> None:
         with self.lock:
@@ -54,6 +58,19 @@ class Knowledge:
                 while len(known) > KEPT:
                     del known[min(known)]
         return ""
+
+    def take_proofs(self, words: Iterable[str]) -> None:
+        """Those of words that the coordinator told."""
+        with self.lock:
+            self.proofs.update(proven for word in words if (proven := parted(word))[1])
+            if len(self.proofs) > PROOFS_MOST * (1 + len(self.versions)):
+                known = {ticket_word(self.ticket), *(word for part in words_of(self.versions) for word in part)}
+                self.proofs = {word: proof for word, proof in self.proofs.items() if word in known}
+
+    def proven(self, words: Iterable[str]) -> list[str]:
+        """Words with their proofs, where they have one."""
+        with self.lock:
+            return [f"{word}:{self.proofs[word]}" if word in self.proofs else word for word in words]
 
     def is_beyond(self, ticket: int, last: dict[str, int]) -> bool:
         """Whether more is known here than this ticket and these last versions."""
@@ -75,7 +92,7 @@ class Knowledge:
             if not self.is_changed or time.monotonic() - self.saved < SAVE_EVERY and not at_once:
                 return
             self.is_changed, self.saved = False, time.monotonic()
-            data = json.dumps({"of": self.generation, "ticket": self.ticket, "versions": self.versions}).encode()
+            data = json.dumps({"of": self.generation, "ticket": self.ticket, "versions": self.versions, "proofs": self.proofs}).encode()
         try:
             put_file(self.path, data)
         except OSError:  # as on a full disk: it is tried again
@@ -89,6 +106,7 @@ class Stored(NamedTuple):
     of: str
     ticket: int
     versions: Versions
+    proofs: dict[str, str]
 
 
 def loaded(path: str) -> Stored | None:
@@ -97,7 +115,8 @@ def loaded(path: str) -> Stored | None:
         with open(path) as file:
             known = json.load(file)
         versions = {str(slot): {int(number): str(digest) for number, digest in some.items()} for slot, some in known["versions"].items()}
-        return Stored(of=str(known["of"]), ticket=int(known["ticket"]), versions=versions)
+        proofs = {str(word): str(proof) for word, proof in known.get("proofs", {}).items()}
+        return Stored(of=str(known["of"]), ticket=int(known["ticket"]), versions=versions, proofs=proofs)
     except (OSError, ValueError, KeyError, TypeError, AttributeError):
         return None
 
@@ -140,7 +159,21 @@ def told(words: Iterable[str]) -> Iterator[tuple[str, int, str]]:
     for word in words:
         slot, _, version = word.rpartition("=")
         number, _, digest = version.partition(":")
-        yield slot, int(number), digest
+        yield slot, int(number), digest.partition(":")[0]
+
+
+def ticket_word(ticket: int) -> str:
+    return f"ticket={ticket}:granted"
+
+
+def ticket_of(word: str) -> int:
+    return int(word.removeprefix("ticket=").partition(":")[0])
+
+
+def parted(word: str) -> tuple[str, str]:
+    """A word and its proof, which may be empty."""
+    front, _, last = word.rpartition(":")
+    return (front, last) if ":" in front.rpartition("=")[2] else (word, "")
 
 
 def beyond(ticket: int, lines: Callable[[str], list[str]], last: dict[str, int], known_ticket: int, known: Versions) -> tuple[list[str], Versions]:

@@ -43,6 +43,14 @@ class Answer:
         return self.note.startswith(("refused ", "dropped "))
 
 
+def check_finished(note: str, ticket: int) -> None:
+    """Whether the filter took what an execution left."""
+    if note == "refused TooLarge":
+        raise FarmFault("it can't be finished: the index of a folder has more than 16 MiB, which is some ten gigabytes in small files: use two folders")
+    if note != f"finished {ticket}":
+        raise FarmFault(f"it can't be finished: {note}")
+
+
 def line_of(*words: str) -> str:
     """The line of some words, none of which can be read as two or as another line."""
     for word in words:

@@ -10,32 +10,39 @@ import os
 import re
 import threading
 import time
-from dataclasses import dataclass
+from dataclasses import dataclass, field
 from typing import Callable, Iterable
 
+from agent.counts import Counts
 from agent.runs.caller import LATE, Caller, Patience
 from agent.runs.executions import Executions
 from agent.faults import ClientGone, FarmFault, LifeOver, NodeRetired, WaitOver, tell
-from agent.transport.hints import Hints
-from agent.filters.knowledge import Knowledge, older, told, words_of
+from agent.logs import DEBUG, ERROR, NOTICE, SILENT, WARNING, Log
+from agent.transport.hints import from_nodes, to_nodes
+from agent.transport.keys import Key
+from agent.filters.knowledge import Knowledge, older, ticket_of, ticket_word, told, words_of
 from agent.filters.lines import Answer, Talk, line_of
+from agent.history import hints as past
 from agent.transport.needs import Needs
 from agent.folders.places import Places
 from agent.folders.shared import SharedFolders
 from agent.runs.merged import MergedFolders
 from agent.store.folder import ChunksMissing, Store
+from agent.store.lasting import put_file
 from agent.tools import LOOK
 from agent.transport.local import COORDINATOR, Transport, address_of, node_address
 from agent.folders.trees import NotMade
-from agent.words import EMPTY, Grant, Slot, grant_of, versions_of
+from agent.words import DIGEST, EMPTY, Grant, Slot, grant_of, versions_of
 
 AWAITED = ("took", "learned", "dropped", "denied", "blob", "recalled", "gave")  # notes that somebody may wait for
 STATES = ("pending", "granted", "running", "committed", "fenced", "released", "content")  # answers to questions
+ENDS = ("committed", "released", "fenced", "failed", "lost", "not_begun")  # of commands
 STORE_FAULT = "refused StoreFault"
 RECALL = re.compile(r"recall [0-9]{1,4} [0-9]{1,20} ([0-9]{1,20}) ", re.ASCII)
 UNHEARD = "the coordinator hasn't answered yet: it may not run, or have another broker or key"
 HEARTBEAT = 2.0
 REMEMBERED = 1024  # commits
+OFFERS = 4  # contents that are given to the store anew at once
 LACK_MOST, LACK_EVERY = 30.0, 5.0  # seconds for which chunks are asked for, and from one asking to the next
 
 
@@ -45,10 +52,11 @@ class Setup:
 
     program: str
     home: str
-    key: str
+    key: Key  # that this home has
     store: Store
     transport: Transport
-    log: Callable[[str], None]
+    log: Log = SILENT
+    counts: Counts = field(default_factory=Counts)
 
 
 @dataclass(frozen=True)
@@ -62,10 +70,14 @@ class Ending:
 class NodeAgent:
     def __init__(self, node: int, nodes: int, setup: Setup) -> None:
         self.node, self.nodes, self.setup, self.store = node, nodes, setup, setup.store
+        self.counts, self.log = setup.counts, setup.log.of(node=node)
+        for how in ENDS:
+            self.counts.add("commands_total", 0, how=how)
         self.home = f"{setup.home}/node{node}"
         os.makedirs(self.home, exist_ok=True)
-        self.hints = Hints(setup.key)
-        self.executions = Executions(self.home, self.log)
+        self.key = setup.key.of_node(node)
+        self.hints = self.key.hints()
+        self.executions = Executions(self.home, lambda text: self.log(text, WARNING))
         self.unleased = Executions(self.home, name="unleased")  # of commands that no life of the node matters to
         self.places = Places(self.home)
         self.changed = threading.Condition()
@@ -73,7 +85,7 @@ class NodeAgent:
         self.resent = 0.0
         self.life = 0
         self.retired = False
-        self.knowledge = Knowledge(f"{self.home}/known", self.hints.generation())
+        self.knowledge = Knowledge(f"{self.home}/known", self.key.names.generation)
         self.older = older(f"{self.home}/known")
         self.divided = ""  # why it takes part in nothing more
         # The lock of `changed` has the following, which several threads use.
@@ -83,14 +95,13 @@ class NodeAgent:
         self.ended: set[int] = set()  # tickets of these whose leases are said to have ended
         self.offered: dict[str, float] = {}  # of a content: when it was given to the store anew
         self.learned: dict[int, dict[str, tuple[int, str]]] = {}  # of a ticket: the versions of its commit
+        self.offering = threading.Semaphore(OFFERS)
         self.needs = Needs()
         self.shared = SharedFolders(self)
         self.merged = MergedFolders(self)
-        words = ["node", "--node", str(node), "--nodes", str(nodes), "--store", f"{self.home}/filter", "--key", setup.key]
+        put_file(f"{self.home}/key", f"{self.key.digits}\n".encode())
+        words = ["node", "--node", str(node), "--nodes", str(nodes), "--store", f"{self.home}/filter", "--key", f"{self.home}/key"]
         self.talk = Talk(f"node {node}", [setup.program, *words], self.all_over, self.hear)
-
-    def log(self, text: str) -> None:
-        self.setup.log(f"node {self.node}: {text}")
 
     def all_over(self) -> None:
         """Ends the executions of a life, before the first one those of earlier agents too that had no lease."""
@@ -102,6 +113,7 @@ class NodeAgent:
         present = self.talk.epoch
         answer = self.talk.call(line, epoch)
         if answer.note == STORE_FAULT:  # it answers nothing else any more: what it keeps is read again by its next life
+            self.log("the node couldn't keep a content, and begins a new life", ERROR)
             self.talk.restart(present)
             raise LifeOver("the node couldn't keep a content, and began a new life")
         return answer
@@ -110,7 +122,7 @@ class NodeAgent:
 
     def hear(self, answer: Answer) -> None:
         for fact in answer.facts:
-            self.log(fact)
+            self.log(fact, WARNING if fact.startswith("skipped ") else DEBUG)
         self._hear_note(answer.note)
         looked: dict[str, bool] = {}
         for line in answer.sends:
@@ -177,10 +189,21 @@ class NodeAgent:
         """Tells the coordinator's agent what is known here, and what was known in generations before this one."""
         ticket, versions = self.knowledge.whole()
         parts = list(words_of(versions))
-        texts = [["knows", self.node, word, number, len(parts), ticket, *part] for number, part in enumerate(parts)]
+        ticket_told = self.knowledge.proven([ticket_word(ticket)])[0]
+        texts = [["knows", self.node, word, number, len(parts), ticket_told, *self.knowledge.proven(part)] for number, part in enumerate(parts)]
         texts += [["lost", self.node, *part] for part in words_of(self.older) if part]
         for text in texts:
             self.setup.transport.send(COORDINATOR, self.hints.seal(" ".join(map(str, text))))
+
+    def tell(self, hint: str) -> None:
+        """A hint to the coordinator's agent."""
+        self.setup.transport.send(COORDINATOR, self.hints.seal(hint))
+
+    def tell_kept(self, ticket: int, digests: dict[str, str]) -> None:
+        """Tells the coordinator's agent how large what is left in each slot is, where that is known."""
+        sizes = {slot: size for slot, digest in digests.items() if (size := self.places.measure(digest))}
+        if sizes:
+            self.tell(past.keeps(self.node, ticket, sizes))
 
     def wake(self) -> None:
         with self.changed:
@@ -218,14 +241,15 @@ class NodeAgent:
             except LifeOver:
                 self.wake()
             except Exception as fault:  # whatever was wrong with one line, the next one is heard
-                self.log(f"{type(fault).__name__}: {fault}")
+                self.log.fault(fault)
                 time.sleep(1.0)
 
     def receive(self, line: str) -> None:
         if self.divided:
             return
-        words = self.hints.open(line)
-        if words:
+        if words := from_nodes(line):
+            self._hear_node(words)
+        elif words := self.hints.open(line):
             self._hear_hint(words)
         elif "\n" not in line and "\r" not in line and self._may_pass(line):
             self.call("m " + line)
@@ -249,32 +273,43 @@ class NodeAgent:
         elif words[0] == "tell" and int(words[1]) == self.node:
             return self.tell_known(words[2])
         elif words[0] == "known" and int(words[1]) == self.node:
-            if self.knowledge.is_beyond(int(words[2]), {slot: number for slot, number, _ in told(words[3:])}):
+            ticket = ticket_of(words[2])
+            if self.knowledge.is_beyond(ticket, {slot: number for slot, number, _ in told(words[3:])}):
                 self.tell_known("news")
-            return self.know(int(words[2]), told(words[3:]))
+            self.know(ticket, told(words[3:]))
+            return self.knowledge.take_proofs(words[2:])
         elif words[0] == "gone" and int(words[1]) == self.node:
             self.retired = True
             self.places.retire()
         elif words[0] == "outdated" and int(words[1]) == self.node and int(words[2]) > self.life:
             tell(f"a later life of node {self.node} was heard, so a new one begins here: does another agent run as node {self.node}?")
             self.talk.restart(self.talk.epoch)
-        elif words[0] == "lacks":
-            threading.Thread(target=self._offer, args=(int(words[1]), words[2]), daemon=True).start()
-            return
-        elif words[0] != "offered":
+        else:
             return
         self.wake()
 
+    def _hear_node(self, words: list[str]) -> None:
+        """What another node says, or anybody: nothing is taken from it but that a content may be wanted, or here."""
+        if words[0] == "offered":
+            self.wake()
+        elif words[1].isdecimal() and DIGEST.fullmatch(words[2]) and self.offering.acquire(blocking=False):
+            threading.Thread(target=self._offer, args=(int(words[1]), words[2]), daemon=True).start()
+
     def _offer(self, node: int, digest: str) -> None:
         """Gives the store a content that another node misses there, where this one has it."""
-        now = time.monotonic()
-        with self.changed:
-            if now - self.offered.get(digest, -LACK_EVERY) < LACK_EVERY:
-                return
-            self.offered[digest] = now
-        if self.store.offer(digest):
-            self.log(f"node {node} missed the content {digest}: it is in the store anew")
-            self.setup.transport.send(node_address(node), self.hints.seal(f"offered {node}"))
+        try:
+            now = time.monotonic()
+            with self.changed:
+                if now - self.offered.get(digest, -LACK_EVERY) < LACK_EVERY:
+                    return
+                self.offered[digest] = now
+                while len(self.offered) > REMEMBERED:
+                    del self.offered[next(iter(self.offered))]
+            if self.store.offer(digest):
+                self.log(f"node {node} missed the content {digest}: it is in the store anew", NOTICE)
+                self.setup.transport.send(node_address(node), to_nodes(f"offered {node} {digest}"))
+        finally:
+            self.offering.release()
 
     def needed(self, keep: int) -> set[str]:
         """What the coordinator says must not be forgotten, and the last versions of each folder."""
@@ -327,7 +362,8 @@ class NodeAgent:
             words = self.call(f"state {ask}", epoch).note.split(" ")
             if words[0] == "pending" and time.monotonic() > due:
                 due = time.monotonic() + 2.0
-                self.setup.transport.send(COORDINATOR, self.hints.seal(f"who {self.node} {ask} {' '.join(folders)}"))
+                self.tell(f"who {self.node} {ask} {' '.join(folders)}")
+                self.tell(past.waits(self.node, self.life, ask, patience.waited(), patience.who))
             held = self.holders.get(ask, UNHEARD if time.monotonic() > silent else "")
             if words[0] == "pending" and held:
                 said = patience.of_shared if any(folder.startswith("shared:") for folder in folders) else ""
@@ -441,16 +477,16 @@ class NodeAgent:
             try:
                 self.store.fetch(index)
                 return True
-            except ChunksMissing:
-                now = time.monotonic()
+            except ChunksMissing as fault:
+                now, what = time.monotonic(), f"{slot.name} version {slot.base}: {fault}"
                 if now - begun > LACK_MOST:
-                    raise
+                    raise ChunksMissing(what) from None
                 if now > due:
                     due = now + LACK_EVERY
-                    patience.say(f"waiting for {slot.name}: chunks of its version aren't in the store, and the other nodes are asked for them")
+                    patience.say(f"waiting for {what}, and the other nodes are asked for them")
                     for other in range(1, self.nodes + 1):
                         if other != self.node:
-                            self.setup.transport.send(node_address(other), self.hints.seal(f"lacks {self.node} {slot.digest}"))
+                            self.setup.transport.send(node_address(other), to_nodes(f"lacks {self.node} {slot.digest}"))
                 return False
 
         self.wait(epoch, patience, is_here)
@@ -468,7 +504,7 @@ class NodeAgent:
         except NotMade:
             if not self.store.mend(index):
                 raise
-            self.log(f"chunks of {slot.name} were spoilt in the store, or forgotten meanwhile")
+            self.log("chunks of it were spoilt in the store, or forgotten meanwhile", WARNING, folder=slot.name)
             self.places.fill(self.store, self.content(slot, epoch, patience), path, gone)
 
     def _index(self, slot: Slot, epoch: int) -> bytes:

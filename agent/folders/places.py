@@ -211,9 +211,14 @@ class Places:
 
     def size_of(self, digest: str) -> str:
         """How much a version holds, in words, where it is in memory."""
+        files, size = self.measure(digest) or (None, None)
+        return "" if files is None else f" ({files} file{'s' * (files != 1)}, {size} bytes)"
+
+    def measure(self, digest: str) -> tuple[int, int] | None:
+        """How many files a version holds, and their bytes, where it is in memory."""
         version = self.versions.find(digest)
         sizes = [entry.size for entry in version.listing.values() if entry.kind == "f"] if version else []
-        return f" ({len(sizes)} file{'s' * (len(sizes) != 1)}, {sum(sizes)} bytes)" if version else ""
+        return (len(sizes), sum(sizes)) if version else None
 
     def _held(self, path: str) -> Held:
         """What is known of what a path holds."""

@@ -13,7 +13,8 @@ from typing import TYPE_CHECKING, Callable, Iterable, Protocol
 
 from agent.runs.caller import LATE, Caller, Patience
 from agent.faults import ClientGone, FarmFault, LifeOver, sentence
-from agent.filters.lines import line_of
+from agent.filters.lines import check_finished, line_of
+from agent.history.hints import begun
 from agent.tools import LOOK
 from agent.words import Slot, short_name
 
@@ -162,6 +163,7 @@ class SharedFolders:
         grant = agent.granted(ask, [folder], epoch, patience)
         try:
             agent.begin(grant.ticket, epoch, patience)
+            agent.tell(begun(agent.node, grant.ticket, patience.waited(), patience.who))
             slot = grant.slots[0]
             mount = home.enter(agent.home, [slot.name], patience.check)[0] if home else None
             path = mount.path if mount else f"{agent.home}/shared/{short_name(folder)}"
@@ -242,10 +244,10 @@ class SharedFolders:
                 self._given_up(tenure, f"abort {tenure.ticket}")
                 agent.store.release(digest)
                 return Closed(f"{folder} is given back: nothing was changed in it, so there is no new version")
+            agent.tell_kept(tenure.ticket, {slot.name: digest})
             with agent.places.rooms.file(index) as file:
                 note = self._given_up(tenure, line_of("finish", str(tenure.ticket), f"{slot.name}={file}"))
-            if note != f"finished {tenure.ticket}":
-                raise FarmFault(note)
+            check_finished(note, tenure.ticket)
         except BaseException:
             agent.store.release(digest, is_answered=False)
             raise

@@ -31,14 +31,18 @@ class Caller(Protocol):
 class Patience:
     """How long a caller waits for a lease."""
 
-    def __init__(self, caller: Caller | None, seconds: float | None, of_shared: str = "", unheard: str = "") -> None:
-        self.caller = caller
+    def __init__(self, caller: Caller | None, seconds: float | None, of_shared: str = "", unheard: str = "", who: str = "") -> None:
+        self.caller, self.who = caller, who  # `who` as the history names it
         self.begun = time.monotonic()
         self.unheard = unheard  # what is said of an answer that is late: for so long it is waited for, though the caller is gone
         self.told, self.pause, self.again = "", AGAIN, 0.0  # what was told last, and when it is told again
         self.of_shared = of_shared  # what is said beside where it waits for a SHARED folder
         self.end = None if seconds is None else time.monotonic() + max(seconds, MOMENT)
         self.seconds = seconds
+
+    def waited(self) -> float:
+        """Seconds for which is waited."""
+        return time.monotonic() - self.begun
 
     def check(self) -> None:
         is_late = time.monotonic() > self.begun + LATE

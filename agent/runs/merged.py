@@ -15,7 +15,7 @@ from dataclasses import dataclass, field
 from typing import TYPE_CHECKING, Callable, Iterator
 
 from agent.faults import LOST, ClientGone, FarmFault, LifeOver, WaitOver
-from agent.filters.lines import line_of
+from agent.filters.lines import check_finished, line_of
 from agent.filters.snapshots import told_of
 from agent.folders import index, trees
 from agent.folders.held import Held
@@ -23,6 +23,8 @@ from agent.folders.listing import edits, escaped
 from agent.folders.merging import FAIL, is_database, merge
 from agent.folders.places import Places
 from agent.folders.versions import REMEMBERED, Version, none
+from agent.history.hints import begun
+from agent.logs import INFO, WARNING
 from agent.runs.caller import LATE, Patience
 from agent.service.operators import Snapshot
 from agent.store.packing import ChunkSpoilt
@@ -245,10 +247,10 @@ class MergedFolders:
             numbers = sorted(int(name) for name in os.listdir(home) if name.isdigit())
             free = [f"{home}/{number}" for number in numbers if f"{home}/{number}" not in self.busy]
             path = max(free, key=lambda each: self._nearness(each, wanted), default=f"{home}/{(numbers or [0])[-1] + 1}")
+            os.makedirs(path, exist_ok=True)  # before another command looks which ones are there
             self.busy.add(path)
             held = self.helds.pop(path, None)
         try:
-            os.makedirs(path, exist_ok=True)
             return held or Held(path, f"{path}.marks")
         except BaseException:
             with self.lock:
@@ -349,25 +351,27 @@ class MergedFolders:
         leased, is_late = time.monotonic(), grant.slots[0].base != own.number
         try:
             agent.begin(grant.ticket, epoch, patience)
+            agent.tell(begun(agent.node, grant.ticket, patience.waited(), patience.who))
             if is_late:
                 with agent.store.making():
                     self._merge(own, grant.slots[0], rule, patience)
                     content = self._keep(own, patience)
+            agent.tell_kept(grant.ticket, {own.slot: own.held.stands})
             with agent.places.rooms.file(content) as file:
                 note = agent.call(line_of("finish", str(grant.ticket), f"{own.slot}={file}"), epoch).note
-            if note != f"finished {grant.ticket}":
-                raise FarmFault(f"it can't be finished: {note}")
+            check_finished(note, grant.ticket)
         except BaseException as fault:
             if not isinstance(fault, LifeOver):
                 agent.give_back(grant.ticket, epoch)
             raise
         kept, own.kept = own.kept, []
         ending = agent.ending(ask, grant.ticket, epoch, patience.caller, patience, lambda is_answered: self._release(kept, is_answered))
-        agent.log(f"the lease {grant.ticket} of a merge was held for {time.monotonic() - leased:.2f} s{', and merged again under it' if is_late else ''}")
+        held = time.monotonic() - leased
+        agent.log(f"the lease of a merge was held for {held:.2f} s{', and merged again under it' if is_late else ''}", ticket=grant.ticket, folder=own.slot)
         if ending.how != "committed":
             return None
         number = next((number for number, _ in ending.versions.values()), grant.slots[0].base + 1)
-        note = f"merged {grant.ticket} {own.changed} {own.removed} {len(own.conflicts)} {rule}"
+        note = f"merged {agent.node} {grant.ticket} {own.changed} {own.removed} {len(own.conflicts)} {rule}"
         agent.setup.transport.send(COORDINATOR, agent.hints.seal(note))
         return Counted(own.slot, number, self._said(own, number, rule))
 
@@ -416,13 +420,13 @@ class MergedFolders:
 
     # Commits that are left to the agent.
 
-    def leave_commit(self, own: Own, rule: str) -> None:
+    def leave_commit(self, own: Own, rule: str, who: str = "") -> None:
         """Commits what a command left though nobody waits for it."""
         def commit() -> None:
             try:
-                self.agent.log(self.commit(own, rule, Patience(None, None)).said)
+                self.agent.log(self.commit(own, rule, Patience(None, None, who=who)).said, INFO, folder=own.slot)
             except (FarmFault, OSError) as fault:
-                self.agent.log(f"what a command left in {own.slot} doesn't count: {fault}")
+                self.agent.log(f"what a command left there doesn't count: {fault}", WARNING, folder=own.slot)
             finally:
                 with self.lock:
                     self.waiting.pop(id(own), None)

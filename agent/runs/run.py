@@ -15,11 +15,12 @@ from agent.runs.caller import Caller, Patience
 from agent.runs.executions import Execution
 from agent.runs.merged import TARGETS, Counted, InConflict, Own
 from agent.faults import LOST, ClientGone, FarmFault, LifeOver, NodeRetired, UsageFault, WaitOver
-from agent.filters.lines import line_of
+from agent.filters.lines import check_finished, line_of
 from agent.filters.node import Ending, NodeAgent
 from agent.folders.listing import escaped
 from agent.folders.places import check_apart, path_order, place_of
 from agent.folders.shared import Closed, Home, Tenure
+from agent.history.hints import begun
 from agent.tools import LOOK, need
 from agent.words import MOST_FOLDERS, Grant, Slot, Want
 
@@ -59,6 +60,7 @@ class Job:
     on_conflict: str = "newer"  # whose a path is that a merged folder's others changed too
     tells_conflicts: bool = False  # each by its path
     is_warm: bool = False  # a new PRIVATE folder begins as the last version of any
+    who: str = ""  # as the history names it
 
 
 class Run:
@@ -69,7 +71,7 @@ class Run:
         self.epoch = 0
         self.begun = False  # whether the command was started
         self.finished = False  # whether what it left was handed to the filter
-        self.patience = Patience(caller, job.wait, job.of_shared)
+        self.patience = Patience(caller, job.wait, job.of_shared, who=job.who)
         self.stopped = False  # because its lease had ended
         self.ended: int | None = None  # the command's status
         self.how = "lost"  # what came of it: `failed`, `committed`, `released`, `fenced`
@@ -77,6 +79,7 @@ class Run:
         self.merged = sorted((want for want in job.wants if want.is_merged), key=lambda want: want.folder)
         self.owns: dict[str, Own] = {}  # the command's copies of merged folders
         self.kept: list[str] = []  # digests that are held until the commit is answered
+        self.digests: dict[str, str] = {}  # of what it left in each slot
         self.counts = False  # whether what it left in the folders of its lease counts
         if len(job.wants) > MOST_FOLDERS:
             raise UsageFault(f"{len(job.wants)} folders: one lease has at most {MOST_FOLDERS}")
@@ -88,6 +91,12 @@ class Run:
             raise UsageFault("a folder is named twice")
 
     def run(self) -> int:
+        try:
+            return self._run()
+        finally:
+            self.agent.counts.add("commands_total", how=self.how if self.begun else "not_begun")
+
+    def _run(self) -> int:
         if any(want.is_shared for want in self.job.wants) and not self.job.home and not self.agent.executions.has_namespaces:
             raise FarmFault("SHARED folders are bound in a mount namespace, and the kernel lets this agent have none: run it as root")
         if self.merged and not self.agent.executions.has_namespaces:
@@ -147,9 +156,9 @@ class Run:
             own = self.owns[want.folder]
             try:
                 if want.writable:
-                    self._tell_merged(own, self.agent.merged.commit(own, self.job.on_conflict, Patience(self.caller, self.job.wait)))
+                    self._tell_merged(own, self.agent.merged.commit(own, self.job.on_conflict, Patience(self.caller, self.job.wait, who=self.job.who)))
             except (WaitOver, ClientGone) as fault:
-                self.agent.merged.leave_commit(self.owns.pop(want.folder), self.job.on_conflict)
+                self.agent.merged.leave_commit(self.owns.pop(want.folder), self.job.on_conflict, self.job.who)
                 self.caller.say(f"{own.slot}: what the command left isn't committed yet: the agent goes on with that, and farm log shows it")
                 lost = LOST if isinstance(fault, ClientGone) else lost or self.job.lost_status or 0
             except InConflict as fault:
@@ -210,10 +219,10 @@ class Run:
                     self.caller.say(f"released {grant.ticket}: nothing was changed in its folders, so there is no new version")
                     self.how, self.counts = "released", True
                     return status
+                self.agent.tell_kept(grant.ticket, self.digests)
                 words = [f"{slot}={file}" for slot, file in index_files]
                 note = self.agent.call(line_of("finish", str(grant.ticket), *words), self.epoch).note
-                if note != f"finished {grant.ticket}":
-                    raise FarmFault(f"it can't be finished: {note}")
+                check_finished(note, grant.ticket)
                 self.finished = True
             return self._settle(grant, status, self.agent.ending(ask, grant.ticket, self.epoch, self.caller, over=self._release), bool(words))
         except BaseException as fault:
@@ -253,6 +262,7 @@ class Run:
             return status, [], False
         self._left(tenures)
         kept = [(slot, *self._kept(slot)) for slot in grant.slots if slot.writable]
+        self.digests = {slot.name: digest for slot, _, digest in kept}
         files = [(slot.name, held.enter_context(agent.places.rooms.file(index))) for slot, index, _ in kept]
         return status, files, not kept or any(digest != slot.digest for slot, _, digest in kept)
 
@@ -342,6 +352,8 @@ class Run:
         if grant:
             agent.runs(grant.ticket)
         try:
+            if grant:
+                agent.tell(begun(agent.node, grant.ticket, self.patience.waited(), job.who))
             return self._watch(grant, execution)
         finally:
             if grant:

@@ -6,6 +6,7 @@ from __future__ import annotations
 
 from typing import NamedTuple
 
+from agent.counts import Sample
 from agent.service.requests import Digests, NeededRequest, StorePlace, StoreRequest
 
 
@@ -41,6 +42,21 @@ class PruneRequest(NamedTuple):
     folder: str
 
 
+class HistoryRequest(NamedTuple):
+    """Asks what came to pass: all that is kept of a folder, of a node, since a time of day; or the newest events after a number."""
+
+    folder: str | None = None
+    node: int | None = None
+    since: float | None = None
+    after: int | None = None
+
+
+class WhyRequest(NamedTuple):
+    """Asks who has a folder, who waits for it, and how long that usually takes."""
+
+    folder: str
+
+
 class Lease(NamedTuple):
     ticket: int
     node: int
@@ -49,6 +65,7 @@ class Lease(NamedTuple):
     kind: str
     slots: tuple[str, ...]
     since: float | None  # time of day at which the agent saw it granted
+    who: str = ""  # as its node's agent tells it
 
 
 class Waiting(NamedTuple):
@@ -58,6 +75,8 @@ class Waiting(NamedTuple):
     ask: int
     folders: tuple[str, ...]
     left: bool  # nobody waits for it any more
+    since: float | None = None  # time of day at which the agent saw it first
+    who: str = ""  # as its node's agent tells it
 
 
 class Snapshot(NamedTuple):
@@ -76,6 +95,12 @@ class Version(NamedTuple):
     digest: str
     size: int | None = None  # bytes of its files, where that is known
     note: str = ""  # what its agent said of it
+    # What the history has, of which nothing may be known:
+    at: float | None = None  # time of day of its commit
+    node: int = 0
+    who: str = ""
+    files: int | None = None
+    held: float | None = None  # seconds for which its lease lived
 
 
 class FolderStatus(NamedTuple):
@@ -97,11 +122,52 @@ class Status(NamedTuple):
     heard: dict[str, float]  # of a node: the time of day at which it was heard
     now: float
     snapshots: tuple[Snapshot, ...] = ()
+    versions: int = 0  # of all folders together
+    waited: float = 0.0  # seconds for which the oldest ask has waited
+    record: int = 0  # bytes of the coordinator's record and its log
 
 
 class Versions(NamedTuple):
     slots: dict[str, tuple[Version, ...]]
 
 
-CoordinatorRequest = StatusRequest | LogRequest | LostRequest | WithdrawRequest | RetireRequest | PruneRequest | NeededRequest | StoreRequest
-CoordinatorTold = Digests | StorePlace | Status | Versions
+class CountsRequest(NamedTuple):
+    """Asks what an agent's process counted since it began: of a node too."""
+
+
+class Counted(NamedTuple):
+    process: int  # whose they are: one serves several sockets
+    samples: tuple[Sample, ...]
+
+
+class Past(NamedTuple):
+    """Events, the newest last, as lines of JSON."""
+
+    last: int  # the number of the newest event of all
+    lines: tuple[str, ...]
+    left_out: int = 0  # older ones that were asked for too
+
+
+class Usual(NamedTuple):
+    """How long something took, in seconds."""
+
+    times: int
+    median: float
+    most: float
+
+
+class Why(NamedTuple):
+    now: float
+    leases: tuple[Lease, ...]
+    waiting: tuple[Waiting, ...]
+    snapshots: tuple[Snapshot, ...]
+    held: Usual | None
+    waited: Usual | None
+    is_known: bool  # whether the folder has a version
+
+
+CoordinatorRequest = (
+    StatusRequest | LogRequest | LostRequest | WithdrawRequest | RetireRequest | PruneRequest | HistoryRequest | WhyRequest | NeededRequest | StoreRequest
+    | CountsRequest
+)
+CoordinatorTold = Digests | StorePlace | Status | Versions | Past | Why | Counted

@@ -29,6 +29,7 @@ class RunRequest(NamedTuple):
     on_conflict: str = "newer"
     tells_conflicts: bool = False
     is_warm: bool = False  # a new PRIVATE folder begins as the last version of any
+    who: str = ""  # for whom it runs, as the history tells it
 
 
 class BuildOptions(NamedTuple):
@@ -38,6 +39,7 @@ class BuildOptions(NamedTuple):
     progress: str | None = None
     platform: str | None = None
     quiet: bool = False
+    layers: bool = False  # instructions are cached, by buildah
     no_cache: bool = False
     pull: bool = False
     secrets: tuple[str, ...] = ()
@@ -64,6 +66,7 @@ class BuildRequest(NamedTuple):
     target: str | None = None
     format: str | None = None
     wait: float | None = None
+    must_commit: bool = False
     stops_when_lost: bool = False
     shared_as: tuple[str, ...] = ()  # `MODE`, or `ID=MODE`: what SHARED mounts are treated as
     keep_failed: bool = False
@@ -71,6 +74,7 @@ class BuildRequest(NamedTuple):
     on_conflict: str = "newer"
     tells_conflicts: bool = False
     is_warm: bool = False  # a new PRIVATE folder begins as the last version of any
+    who: str = ""  # for whom it runs, as the history tells it
 
 
 class ForgetRequest(NamedTuple):
@@ -113,7 +117,7 @@ class Digests(NamedTuple):
 
 
 class StorePlace(NamedTuple):
-    """Where contents lie: a broker's Redis, or the folder named; neither: the home's own folder."""
+    """Where contents lie: a broker's Redis, or the folder or bucket named; neither: the home's own folder."""
 
     broker: str | None
     contents: str | None

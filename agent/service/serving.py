@@ -9,26 +9,32 @@ import math
 import os
 import signal
 import socket
-import sys
 import threading
 import time
 from dataclasses import dataclass, field
 
 from agent.build.builds import Build, Builds
 from agent.service.client import check_home, is_there
+from agent.filters.bounds import MOST
 from agent.filters.coordinator import SILENT_LEAST, CoordinatorAgent
 from agent.runs.executions import open_many
-from agent.faults import LOST, FarmFault, UsageFault, show, tell
-from agent.transport.hints import Hints, make_key, renew_key
+from agent.counts import Counts
+from agent.faults import LOST, ClientGone, FarmFault, NodeRetired, UsageFault, WaitOver, sentence, show, tell
+from agent.logs import INFO, NOTICE, WARNING, Log, opened
+from agent.transport.keys import FARM_NAME, NODE_NAME, FarmKey, Key, Names, key_of, make_key, renew_key
 from agent.filters.lines import line_of
 from agent.filters.node import NodeAgent, Setup
 from agent.folders.places import check_outside
+from agent.history.told import past_of, why_of, with_past
 from agent.store.opened import open_store
 from agent.store.redis import RedisStore
 from agent.transport.redis import RedisTransport
+from agent.transport.redis_wire import signed_in
 from agent.runs.run import Job, Run
+from agent.service.forgetting import ByItself, Rule
 from agent.service.operators import (
-    LogRequest, LostRequest, PruneRequest, RetireRequest, StatusRequest, Version, Versions, WithdrawRequest,
+    Counted, CountsRequest, HistoryRequest, LogRequest, LostRequest, PruneRequest, RetireRequest, StatusRequest, Version, Versions, WhyRequest,
+    WithdrawRequest,
 )
 from agent.service.requests import (
     BuildRequest, Digests, ForgetRequest, Forgotten, NeededRequest, RunRequest, StorePlace, StoreRequest,
@@ -38,7 +44,7 @@ from agent.store.folder import is_old
 from agent.store.lasting import clock_of
 from agent.tools import farm_program
 from agent.transport.local import LocalTransport, Transport
-from agent.words import DIGEST, want_of
+from agent.words import DIGEST, is_bucket, want_of, who_of
 
 IDLE = 10.0  # seconds after which a farm that a command started for itself ends
 
@@ -52,9 +58,13 @@ class Wanted:
     nodes: tuple[int, ...]
     most: int  # how many nodes the farm has
     broker: str | None = None
-    contents: str | None = None  # the folder of a store that machines share
+    contents: str | None = None  # the folder of a store that machines share, or s3://BUCKET/PREFIX
     lease_timeout: float | None = None
+    most_asks: int = MOST  # leases and asks that one node may have at once
     verbose: bool = False
+    log_json: bool = False
+    gc: Rule = Rule()
+    isolation: str | None = None  # of buildah's steps
     group: str | None = None  # whose members may ask, beside the home's owner
     while_used: bool = False
     restored: bool = False  # the operator vouches for the coordinator's record, though the farm knows of a later one
@@ -66,12 +76,15 @@ class Served:
     coordinator: CoordinatorAgent | None = None
     nodes: list[NodeAgent] = field(default_factory=list)
     services: list[Service] = field(default_factory=list)
+    gc: ByItself | None = None
 
     def is_busy(self) -> bool:
         """Whether somebody waits for something here, or a folder is open that has to be closed yet."""
         return any(service.busy for service in self.services) or any(node.shared.tenures or node.merged.waiting for node in self.nodes)
 
     def stop(self) -> None:
+        if self.gc:
+            self.gc.over.set()
         for service in self.services:
             service.close()
         for node in self.nodes:
@@ -88,38 +101,52 @@ def check(wanted: Wanted) -> None:
         raise UsageFault(f"a node that is well may be silent for some seconds: --lease-timeout is at least {SILENT_LEAST:g}")
     if not wanted.broker and os.path.exists(mark):
         raise UsageFault(f"{home} is of a farm over a broker. If that farm is gone, remove {mark}")
-    if wanted.restored and (is_there(f"{home}/coordinator.sock") or not os.path.exists(f"{home}/key")):
+    if wanted.restored and (is_there(f"{home}/coordinator.sock") or not os.path.exists(f"{home}/{FARM_NAME}")):
         raise UsageFault(f"--restored is for a coordinator that has ended, and whose key and record lie in {home}")
     if wanted.broker and wanted.coordinator and os.path.exists(mark) and not os.path.exists(f"{home}/record") and not wanted.restored:
         raise UsageFault(f"{home} is of a farm whose coordinator has another home, or lost its record: a second one would give its tickets again")
-    if wanted.broker and not os.path.exists(f"{home}/key") and not wanted.coordinator:
-        raise UsageFault(f"{home}/key is missing: copy it from the coordinator's machine, by a way that nobody else can read")
+    if wanted.broker and not wanted.coordinator:
+        check_node_key(home, wanted.nodes[0])
 
 
-def join(wanted: Wanted, hints: Hints) -> None:
+def check_node_key(home: str, node: int) -> None:
+    """A machine with a node alone has that node's key, and no other."""
+    path = f"{home}/{NODE_NAME}"
+    if os.path.exists(path):
+        key_of(home).of_node(node)
+    elif os.path.exists(f"{home}/{FARM_NAME}"):
+        raise UsageFault(
+            f"{home}/{FARM_NAME} is the key of the whole farm, which only the coordinator's machine has: farm key {node} --home {home} --replace "
+            f"puts that of node {node} in its place"
+        )
+    else:
+        raise UsageFault(f"{path} is missing: farm key {node} FILE on the coordinator's machine writes it. Bring it here by a way that nobody else can read")
+
+
+def join(wanted: Wanted, names: Names) -> None:
     """Marks the home of a farm over a broker: a farm that serves it alone would have a coordinator of its own, and other versions."""
     if wanted.broker:
         with open(f"{wanted.home}/joined", "w") as file:
-            file.write(wanted.broker.rpartition("@")[2].removeprefix("redis://") + f"\n{hints.name()}\n")
+            file.write(wanted.broker.rpartition("@")[2].removeprefix("redis://") + f"\n{names.farm}\n")
 
 
-def check_joined(home: str, hints: Hints) -> None:
+def check_joined(home: str, names: Names) -> None:
     """Refuses a home that served a farm of another key."""
     with contextlib.suppress(FileNotFoundError), open(f"{home}/joined") as file:
-        if file.read().splitlines()[1:] not in ([], [hints.name()]):
-            raise UsageFault(f"{home} served another farm, whose key was another one than {home}/key: name another --home")
+        if file.read().splitlines()[1:] not in ([], [names.farm]):
+            raise UsageFault(f"{home} served another farm, whose key was another one than what is here now: name another --home")
 
 
-def check_contents(folder: str, hints: Hints) -> None:
+def check_contents(folder: str, names: Names) -> None:
     """Refuses a folder of contents that another farm has: each would forget what the other one needs."""
     mark = f"{folder}/farm"
     close_to_others(folder, None)
     try:
         with open(mark, "x") as file:
-            file.write(hints.name())
+            file.write(names.farm)
     except FileExistsError:
         with open(mark) as file:
-            if file.read() not in ("", hints.name()):
+            if file.read() not in ("", names.farm):
                 raise UsageFault(f"{folder} has the contents of another farm: name another --contents. If that farm is gone, remove {mark}") from None
 
 
@@ -137,30 +164,46 @@ def close_to_others(folder: str, group: str | None) -> None:
             raise UsageFault(f"{folder} is another user's: name one of your own, or have its owner chmod it to {mode:o}") from None
 
 
+def _key(wanted: Wanted) -> Key:
+    """The farm's key where its coordinator is served, else that of the node."""
+    if not wanted.coordinator:
+        return key_of(wanted.home)
+    path = make_key(f"{wanted.home}/{FARM_NAME}")
+    if wanted.restored:
+        renew_key(path)
+    return FarmKey(path)
+
+
 def setup_of(wanted: Wanted) -> Setup:
     check(wanted)
     program = farm_program()
     close_to_others(wanted.home, wanted.group)
-    key = make_key(f"{wanted.home}/key")
-    if wanted.restored:
-        renew_key(key)
-    hints = Hints(key)
-    check_joined(wanted.home, hints)
-    if wanted.contents:
-        check_contents(wanted.contents, hints)
+    key = _key(wanted)
+    check_joined(wanted.home, key.names)
+    if wanted.contents and not is_bucket(wanted.contents):
+        check_contents(wanted.contents, key.names)
     transport: Transport = LocalTransport()
-    if wanted.broker:
-        transport = RedisTransport(wanted.broker, f"farm-{hints.lines_name()}")
-
-    def log(text: str) -> None:
-        if wanted.verbose:
-            with contextlib.suppress(OSError):  # what the filters say counts, whether anybody hears of it or not
-                print(f"{time.strftime('%H:%M:%S')} {text}", file=sys.stderr, flush=True)
-
-    store = open_store(wanted.home, wanted.broker, wanted.contents, hints, "-".join(map(str, wanted.nodes)))
+    counts, log = Counts(), opened(wanted.verbose, wanted.log_json)
+    broker = wanted.broker and signed_in(wanted.broker, key.password())
+    if broker:
+        transport = over_broker(broker, key.names, counts, log)
+    store = open_store(wanted.home, broker, wanted.contents, key.names, "-".join(map(str, wanted.nodes)))
+    store.counts, store.log = counts, log
     if isinstance(store, RedisStore) and not store.keeps_well():
         tell("Redis doesn't sync what it is given (appendonly yes, appendfsync always): its crash can lose contents")
-    return Setup(program=program, home=wanted.home, key=key, store=store, transport=transport, log=log)
+    return Setup(program=program, home=wanted.home, key=key, store=store, transport=transport, log=log, counts=counts)
+
+
+def over_broker(broker: str, names: Names, counts: Counts, log: Log) -> RedisTransport:
+    """Lines over a broker. That it can't be reached is told once, and that it can be again."""
+    transport = RedisTransport(broker, f"farm-{names.lines()}")
+
+    def reached(why: str) -> None:
+        if said := counts.reached("the broker", why):
+            log(said, WARNING if why else NOTICE)
+
+    transport.reached = reached
+    return transport
 
 
 def begin(wanted: Wanted) -> Served:
@@ -174,7 +217,11 @@ def begin(wanted: Wanted) -> Served:
             _begin_node(served, setup, number)
         if served.coordinator:
             served.coordinator.watch.settle(set(wanted.nodes))
-        join(wanted, Hints(setup.key))
+        join(wanted, setup.key.names)
+        if wanted.gc.every is not None:
+            sockets = [f"{wanted.home}/node{number}.sock" for number in wanted.nodes]
+            served.gc = ByItself(wanted.home, wanted.gc, setup.store, sockets, setup.counts, setup.log)
+            served.gc.start()
     except BaseException:
         served.stop()
         raise
@@ -183,19 +230,23 @@ def begin(wanted: Wanted) -> Served:
 
 def _begin_coordinator(served: Served, setup: Setup) -> None:
     wanted = served.wanted
-    agent = CoordinatorAgent(setup, wanted.lease_timeout, nodes=wanted.most, has_broker=bool(wanted.broker))
+    assert isinstance(setup.key, FarmKey)
+    agent = CoordinatorAgent(
+        setup, setup.key, wanted.lease_timeout, nodes=wanted.most, has_broker=bool(wanted.broker), most_asks=wanted.most_asks
+    )
     served.coordinator = agent
     agent.talk.start()
     if wanted.restored:
         lost = sum(map(len, agent.watch.restore().values()))
         tell(
-            f"the farm is of a new generation: copy {setup.key} to the home of each of its nodes, and start them again. {lost} versions that are "
-            "known of the one before aren't in the record, and farm log --lost shows them"
+            f"the farm is of a new generation: bring each node's machine its new key, by farm key N FILE here, and start them again. {lost} versions that "
+            "are known of the one before aren't in the record, and farm log --lost shows them"
         )
     agent.watch.begin()
+    agent.look_back()
     threading.Thread(target=agent.serve, daemon=True).start()
     agent.watch.settle(set())
-    _serve(served, "coordinator", lambda asked, link: answer_operator(agent, served.wanted, asked, link))
+    _serve(served, "coordinator", lambda asked, link: answer_operator(agent, served.wanted, asked, link), agent.log)
 
 
 def _begin_node(served: Served, setup: Setup, number: int) -> None:
@@ -203,19 +254,32 @@ def _begin_node(served: Served, setup: Setup, number: int) -> None:
     agent.talk.start()
     served.nodes.append(agent)
     agent.places.sweep()
-    builds = Builds(agent)
+    builds = Builds(agent, isolation=served.wanted.isolation)
     threading.Thread(target=agent.serve, daemon=True).start()
-    _serve(served, f"node{number}", lambda asked, link: answer_command(agent, builds, served.wanted, asked, link))
+    _serve(served, f"node{number}", lambda asked, link: answer_command(agent, builds, served.wanted, asked, link), agent.log)
 
 
-def _serve(served: Served, name: str, handler: Handler) -> None:
-    service = Service(f"{served.wanted.home}/{name}.sock", handler, served.wanted.group)
+def _serve(served: Served, name: str, handler: Handler, log: Log) -> None:
+    def failed(fault: Exception) -> None:
+        if isinstance(fault, (UsageFault, NodeRetired, WaitOver, ClientGone)):
+            log(f"refused: {fault}", INFO)  # it is the caller's own
+        elif isinstance(fault, (FarmFault, OSError)):
+            log(f"a request failed: {sentence(fault) if isinstance(fault, OSError) else fault}", WARNING)
+        else:
+            log.fault(fault)
+
+    service = Service(f"{served.wanted.home}/{name}.sock", handler, served.wanted.group, failed)
     served.services.append(service)
     threading.Thread(target=service.serve, daemon=True).start()
 
 
 def serve(wanted: Wanted) -> int:
     """Serves, and ends well whatever ends it."""
+    with opened(wanted.verbose, wanted.log_json).hearing_all():
+        return _serve_until_ended(wanted)
+
+
+def _serve_until_ended(wanted: Wanted) -> int:
     over, leaving = threading.Event(), threading.Event()
     open_many()
     if wanted.while_used:
@@ -312,6 +376,8 @@ def answer_command(agent: NodeAgent, builds: Builds, wanted: Wanted, request: ob
         link.tell(Digests(digests=tuple(sorted(agent.needed(request.keep)))))
     elif isinstance(request, StoreRequest):
         link.tell(StorePlace(broker=wanted.broker, contents=wanted.contents))
+    elif isinstance(request, CountsRequest):
+        link.tell(Counted(process=os.getpid(), samples=agent.counts.told()))
     else:
         raise FarmFault(f"a node answers no {type(request).__name__}")
     return 0
@@ -324,12 +390,13 @@ def run_of(agent: NodeAgent, wanted: Wanted, request: RunRequest, link: Connecti
     job = Job(
         command=list(request.command), cwd=request.cwd, env=request.env, wants=[want_of(word) for word in request.folders],
         wait=request.wait, stops_when_lost=request.stops_when_lost, fenced_status=uncounted, lost_status=uncounted, must_commit=request.must_commit, umask=request.umask,
-        on_conflict=request.on_conflict, tells_conflicts=request.tells_conflicts, is_warm=request.is_warm,
+        on_conflict=request.on_conflict, tells_conflicts=request.tells_conflicts, is_warm=request.is_warm, who=who_of(request.who),
     )
     run = Run(agent, job, link)
     for path in run.paths.values():
         for own in filter(None, (wanted.home, wanted.contents)):
-            check_outside(path, own)
+            if not is_bucket(own):
+                check_outside(path, own)
     return run
 
 
@@ -346,7 +413,11 @@ def answer_operator(agent: CoordinatorAgent, wanted: Wanted, request: object, li
     if isinstance(request, StatusRequest):
         link.tell(agent.status(request.last))
     elif isinstance(request, LogRequest):
-        link.tell(Versions(slots={slot: tuple(agent.versions(slot)) for slot in agent.slots_of(request.folder)}))
+        link.tell(Versions(slots={slot: with_past(agent.history, slot, agent.versions(slot)) for slot in agent.slots_of(request.folder)}))
+    elif isinstance(request, HistoryRequest):
+        link.tell(past_of(agent.history, request))
+    elif isinstance(request, WhyRequest):
+        link.tell(why_of(agent.history, request.folder, agent.status()))
     elif isinstance(request, LostRequest):
         link.tell(Versions(slots={slot: tuple(Version(version=number, ticket=0, digest=some[number]) for number in sorted(some))
                                   for slot, some in agent.watch.lost().items() if request.folder in (None, slot, slot.partition("#")[0])}))
@@ -364,6 +435,8 @@ def answer_operator(agent: CoordinatorAgent, wanted: Wanted, request: object, li
         link.tell(Digests(digests=tuple(sorted(agent.needed(request.keep)))))
     elif isinstance(request, StoreRequest):
         link.tell(StorePlace(broker=wanted.broker, contents=wanted.contents))
+    elif isinstance(request, CountsRequest):
+        link.tell(Counted(process=os.getpid(), samples=agent.setup.counts.told()))
     else:
         raise FarmFault(f"a coordinator answers no {type(request).__name__}")
     return 0

@@ -21,6 +21,7 @@ from agent.service.carried import read, written
 from agent.service.requests import NodeWasRetired
 
 Handler = Callable[[object, "Connection"], int]  # answers a request; another one it refuses
+Failed = Callable[[Exception], None]  # hears why a request failed
 ENDING = (signal.SIGINT, signal.SIGTERM, signal.SIGHUP, signal.SIGQUIT)
 HELD_MOST = 10.0  # seconds for which a caller that was told to end waits for what holds its request up, as a folder that can't be reached
 
@@ -70,7 +71,14 @@ class Connection:
             self.exit(LOST)
 
 
-def answer(link: socket.socket, handler: Handler) -> None:
+def _trace(fault: Exception) -> None:
+    """A fault of the agent itself leaves a traceback."""
+    if not isinstance(fault, (FarmFault, OSError)):
+        with contextlib.suppress(OSError):
+            traceback.print_exception(fault)
+
+
+def answer(link: socket.socket, handler: Handler, failed: Failed = _trace) -> None:
     """Answers one request: a byte with three descriptors, and a line of JSON."""
     message, control, _, _ = link.recvmsg(1, socket.CMSG_SPACE(12))
     streams: list[int] = []
@@ -87,30 +95,29 @@ def answer(link: socket.socket, handler: Handler) -> None:
         connection = Connection(link, streams)
         threading.Thread(target=connection.listen, args=(reader,), daemon=True).start()
         connection.say("")  # it was heard
-        connection.exit(handled(handler, raw, connection))
+        connection.exit(handled(handler, raw, connection, failed))
     finally:
         for handle in streams:
             os.close(handle)
 
 
-def handled(handler: Handler, raw: bytes, connection: Connection) -> int:
+def handled(handler: Handler, raw: bytes, connection: Connection, failed: Failed = _trace) -> int:
     """The status of a request; each fault is told in one sentence."""
     try:
         return handler(read(raw), connection)
-    except NodeRetired as fault:
-        connection.tell(NodeWasRetired(why=str(fault)))  # who asked knows whether another node will do
-        return fault.status
-    except FarmFault as fault:
-        connection.say(("refused: " if fault.status == BAD_DOCKERFILE else "") + str(fault))
-        return fault.status
-    except OSError as fault:
-        connection.say(sentence(fault))
-        return FAULT
-    except Exception as fault:  # of the agent itself
-        with contextlib.suppress(OSError):
-            traceback.print_exc()
-        connection.say(f"{type(fault).__name__}: {fault}")
-        return FAULT
+    except Exception as fault:
+        failed(fault)
+        if isinstance(fault, NodeRetired):
+            connection.tell(NodeWasRetired(why=str(fault)))  # who asked knows whether another node will do
+        else:
+            connection.say(_said(fault))
+        return fault.status if isinstance(fault, FarmFault) else FAULT
+
+
+def _said(fault: Exception) -> str:
+    if isinstance(fault, FarmFault):
+        return ("refused: " if fault.status == BAD_DOCKERFILE else "") + str(fault)
+    return sentence(fault) if isinstance(fault, OSError) else f"{type(fault).__name__}: {fault}"
 
 
 def group_of(name: str) -> int:
@@ -124,8 +131,8 @@ def group_of(name: str) -> int:
 class Service:
     """A socket of the farm's home."""
 
-    def __init__(self, path: str, handler: Handler, group: str | None = None) -> None:
-        self.path, self.handler = path, handler
+    def __init__(self, path: str, handler: Handler, group: str | None = None, failed: Failed = _trace) -> None:
+        self.path, self.handler, self.failed = path, handler, failed
         self.busy = 0
         self.used = time.monotonic()  # when the last request was answered
         self.closed = False
@@ -155,7 +162,7 @@ class Service:
     def _one(self, link: socket.socket) -> None:
         try:
             with link:
-                answer(link, self.handler)
+                answer(link, self.handler, self.failed)
         except OSError:
             pass
         finally:

@@ -9,9 +9,12 @@ import contextlib
 import fcntl
 import hashlib
 import os
-from typing import Callable, Iterator, Protocol
+import time
+from typing import Callable, Iterable, Iterator, NamedTuple, Protocol
 
+from agent.counts import Counts
 from agent.faults import FarmFault
+from agent.logs import SILENT, Log
 from agent.store.chunks import chunk_names, chunk_path, chunk_sizes, folder_size
 from agent.store.holds import Holds
 from agent.store.lasting import clock_of, put_file
@@ -21,12 +24,34 @@ from agent.words import DIGEST, EMPTY
 LARGEST_CONTENT = 16 << 20  # bytes
 
 
+FORGOTTEN_AT_ONCE, PAUSE = 200, 0.02  # chunks, and seconds between some and the next: in these commits that wait go on
+
+
 class ChunksMissing(FarmFault):
     """Chunks of a content aren't here now. Another machine may give them to the store."""
 
 
+class Kept(NamedTuple):
+    """An index in a store."""
+
+    age: float  # seconds since it was given, by the store's clock
+    size: int  # bytes
+
+
+class Tally(NamedTuple):
+    """What a store has."""
+
+    indexes: dict[str, Kept]  # by digest
+    chunks: dict[str, int]  # of each the bytes that it takes
+
+    def size(self) -> int:
+        return sum(kept.size for kept in self.indexes.values()) + sum(self.chunks.values())
+
+
 class Store(Protocol):
     chunks: str  # the folder in which casync reads and writes chunks
+    counts: Counts
+    log: Log
 
     def making(self) -> contextlib.AbstractContextManager[None]:
         """As long as it is held, nothing is forgotten."""
@@ -52,6 +77,14 @@ class Store(Protocol):
     def offer(self, digest: str) -> bool:
         """Gives the shared store what another machine misses there, where it is here. Whether it did."""
 
+    def forget(self, ask: Callable[[], set[str]], grace: float, tell: Callable[[str], None] = lambda digest: None) -> tuple[int, int]:
+        """Removes each index that isn't needed or held, and each chunk that no index left names, if it is older than the grace; how many of both
+        went. Asks what is needed once nothing can be committed unseen. Where a content that is needed can't be read `tell` hears its digest,
+        and of chunks only those go that what was removed had: the others may be its own."""
+
+    def tally(self) -> Tally:
+        """What it has, while others change that."""
+
 
 def is_old(path: str, oldest: float) -> bool:
     """Whether a file was there at that time, and hasn't been written since."""
@@ -67,6 +100,7 @@ class FolderStore:
     def __init__(self, root: str) -> None:
         self.root, self.chunks, self.indexes = root, f"{root}/chunks", f"{root}/indexes"
         self.holds = Holds(f"{root}/holds")
+        self.counts, self.log = Counts(), SILENT
         os.makedirs(self.chunks, exist_ok=True)
         os.makedirs(self.indexes, exist_ok=True)
 
@@ -89,9 +123,10 @@ class FolderStore:
                 f"{folder_size(index)} bytes: keep that in several folders"
             )
         digest = hashlib.sha256(index).hexdigest()
-        self.fetch(index)
-        self.holds.hold(digest)
-        put_file(f"{self.indexes}/{digest}", index)
+        with self.counts.timed(self.root, "keep", self.log):
+            self.fetch(index)
+            self.holds.hold(digest)
+            put_file(f"{self.indexes}/{digest}", index)
         return digest
 
     def release(self, digest: str, is_answered: bool = True) -> None:
@@ -137,33 +172,83 @@ class FolderStore:
         return False  # all see one folder
 
     def forget(self, ask: Callable[[], set[str]], grace: float, tell: Callable[[str], None] = lambda digest: None) -> tuple[int, int]:
-        """Removes each index that isn't needed or held, and each chunk that no index left names, if it is older than the grace. Waits until
-        nobody makes anything, and asks then what is needed; how many indexes and chunks went. Where a content that is needed can't be read
-        `tell` hears its digest, and of chunks only those go that what was removed had: the others may be its own."""
+        """Waits until nobody makes anything, and then removes indexes; what is made meanwhile waits. Chunks it removes a few at a time. What
+        indexes name is read before, as far as that can be known."""
+        forgetting = _Forgetting(self)
+        forgetting.read(forgetting.there() - self._old(ask(), grace))
         with self._locked(fcntl.LOCK_EX):
             held = self.holds.held(grace)  # before it is asked: what is answered meanwhile is needed then
             needed = ask() | held
-            oldest = clock_of(f"{self.root}/lock") - grace
-            gone = [d for d in os.listdir(self.indexes) if d not in needed and is_old(f"{self.indexes}/{d}", oldest)]
-            had = {name for digest in gone for name in chunk_names(self.index(digest) or b"")}
-            for name in gone:
-                os.unlink(f"{self.indexes}/{name}")
-            used, is_whole = set[str](), True
-            for digest in os.listdir(self.indexes):
-                index = self.index(digest)
-                used.update(chunk_names(index or b""))
-                if index is None and digest in needed:
-                    tell(digest)
-                    is_whole = False
-            return len(gone), self._forget_chunks(used, oldest, None if is_whole else had)
+            gone = self._old(needed, grace)
+            forgetting.read(forgetting.there() - gone)
+            unread = forgetting.unread & needed
+            had = {name for digest in gone for name in chunk_names(self.index(digest) or b"")} if unread else None
+            for digest in gone:
+                os.unlink(f"{self.indexes}/{digest}")
+        for digest in unread:
+            tell(digest)
+        return len(gone), forgetting.forget_chunks(self._clock() - grace, had)
 
-    def _forget_chunks(self, used: set[str], oldest: float, only: set[str] | None) -> int:
-        count = 0
+    def _clock(self) -> float:
+        """The time of day by the folder's clock."""
+        os.close(os.open(f"{self.root}/lock", os.O_RDWR | os.O_CREAT, 0o600))
+        return clock_of(f"{self.root}/lock")
+
+    def _old(self, needed: set[str], grace: float) -> set[str]:
+        """The indexes that aren't needed, and are older than the grace."""
+        oldest = self._clock() - grace
+        return {digest for digest in os.listdir(self.indexes) if digest not in needed and is_old(f"{self.indexes}/{digest}", oldest)}
+
+    def tally(self) -> Tally:
+        now, indexes, chunks = self._clock(), dict[str, Kept](), dict[str, int]()
+        for digest in os.listdir(self.indexes):
+            with contextlib.suppress(FileNotFoundError):
+                there = os.lstat(f"{self.indexes}/{digest}")
+                indexes[digest] = Kept(now - there.st_mtime, there.st_size)
+        for path, name in self.all_chunks():
+            with contextlib.suppress(FileNotFoundError):
+                chunks[name] = os.lstat(path).st_size
+        return Tally(indexes, chunks)
+
+    def all_chunks(self) -> Iterator[tuple[str, str]]:
+        """The path and name of each chunk; also of what a killed casync left, whose names end otherwise."""
         for folder, _, names in os.walk(self.chunks):
-            for name in names:  # also what a killed casync left: its names end otherwise
-                path = f"{folder}/{name}"
-                chunk = name.removesuffix(".cacnk")
-                if chunk not in used and (only is None or chunk in only) and is_old(path, oldest):
-                    os.unlink(path)
-                    count += 1
+            for name in names:
+                yield f"{folder}/{name}", name.removesuffix(".cacnk")
+
+
+class _Forgetting:
+    """What one going through a folder learned."""
+
+    def __init__(self, store: FolderStore) -> None:
+        self.store = store
+        self.seen, self.unread = set[str](), set[str]()  # digests
+        self.used = set[str]()  # chunks
+
+    def there(self) -> set[str]:
+        return set(os.listdir(self.store.indexes))
+
+    def read(self, digests: Iterable[str]) -> None:
+        """Takes what these have as used."""
+        for digest in set(digests) - self.seen:
+            index = self.store.index(digest)
+            if index is None:  # it may be given anew
+                self.unread.add(digest)
+                continue
+            self.used.update(chunk_names(index))
+            self.seen.add(digest)
+            self.unread.discard(digest)
+
+    def forget_chunks(self, oldest: float, only: set[str] | None) -> int:
+        """Removes the chunks that nothing uses, of some or of all: how many. What came between two turns is read first."""
+        unused = [(path, name) for path, name in self.store.all_chunks() if name not in self.used and (only is None or name in only)]
+        count = 0
+        for at in range(0, len(unused), FORGOTTEN_AT_ONCE):
+            time.sleep(PAUSE)
+            with self.store._locked(fcntl.LOCK_EX):
+                self.read(self.there())
+                for path, name in unused[at : at + FORGOTTEN_AT_ONCE]:
+                    if name not in self.used and is_old(path, oldest):
+                        os.unlink(path)
+                        count += 1
         return count

@@ -1,32 +1,23 @@
-"""A store that several machines share over Redis, behind a folder of each machine's own.
+"""A store that several machines share over Redis.
 
-Owes the filters what `store` says. Redis keeps what it is given as well as it is set up to: with `appendfsync always` a content is on
-its device before it answers, else a crash of its machine can lose contents that only the makers' machines have then. What it hands out
-isn't trusted: a chunk that isn't what its name says is as good as missing. A chunk that is there already is compared before a commit
-relies on it, once in an agent's life.
+Owes the filters what `shared` says. Redis keeps what it is given as well as it is set up to: with `appendfsync always` a content is on
+its device before it answers, else a crash of its machine can lose contents that only the makers' machines have then.
 """
 from __future__ import annotations
 
 import contextlib
 import hashlib
-import secrets
-import threading
 import time
-from typing import Callable
+from typing import Callable, Iterator
 
 from agent.faults import FarmFault
-from agent.store.chunks import chunk_names, chunk_path, chunk_sizes
-from agent.store.folder import LARGEST_CONTENT, ChunksMissing, FolderStore
-from agent.store.lasting import put_file
-from agent.store.packing import Fresh, unpacked_of
+from agent.store.chunks import chunk_names
+from agent.store.folder import LARGEST_CONTENT, ChunksMissing, Kept, Tally
+from agent.store.shared import AT_ONCE, AWAY, SharedStore, most_packed
 from agent.transport.redis_wire import Redis, RedisAway, RedisFault, Word
 
-AT_ONCE = 64  # chunks of one request
-AWAY = 120.0  # seconds for which a server that is away is tried again: what a command made would be lost
-SEAL = 32  # bytes that older agents wrote before a chunk
-SPARE = 1 << 10  # bytes that a chunk may be longer, packed
 HELD_MOST = 1 << 28  # bytes of all that is being made at once
-COMPARED_MOST = 1 << 18  # chunks
+TALLIED_AT_ONCE = 1_000  # keys
 TURNS_MOST = 100  # times that what may be forgotten is looked for
 
 # Redis keeps beside all keys when each was last given or found there: what is young isn't forgotten, since a commit of it may be under way.
@@ -43,28 +34,22 @@ if given and redis.call('TIME')[1] - given < tonumber(ARGV[1]) then return 0 end
 redis.call('DEL', KEYS[1]) redis.call('ZREM', KEYS[2], KEYS[1]) return 1"""
 
 
-class RedisStore:
+class RedisStore(SharedStore):
+    name = "the store over Redis"
+
     def __init__(self, url: str, root: str, farm: str, owner: str = "") -> None:
         self.server = Redis(url)
         self.farm = farm
-        self.owner, self.own = owner, secrets.token_hex(4)  # of what it holds: which agent of the farm, and which process of it
-        self.is_followed = False  # whether what processes before this one held is let go
-        self.folder = FolderStore(root)
-        self.lock = threading.Lock()  # it has `compared`
-        self.compared: dict[str, None] = {}  # chunks that were there as they are here
-        self.chunks = self.folder.chunks
+        super().__init__(root, owner)
 
     def keeps_well(self) -> bool:
         """Whether the server says that what it was given is on its device."""
         try:
             said = self.server.call("CONFIG", "GET", "append*")
-        except RedisFault:
-            return False
+        except RedisFault as fault:
+            return str(fault).startswith("NOPERM")  # a node's user may not ask: the coordinator's agent does
         pairs = list(zip(said[::2], said[1::2])) if isinstance(said, list) else []
         return (b"appendonly", b"yes") in pairs and (b"appendfsync", b"always") in pairs
-
-    def making(self) -> contextlib.AbstractContextManager[None]:
-        return self.folder.making()
 
     def _name(self, kind: str, digest: str) -> str:
         return f"{self.farm}:{kind}:{digest}"
@@ -73,18 +58,9 @@ class RedisStore:
         """The command of a script on a key."""
         return ["EVAL", script, 2, key, f"{self.farm}:given", *words]
 
-    def publish(self, index: bytes, away: Callable[[str], None] = lambda why: None, base: bytes = b"") -> str:
-        digest = self.folder.publish(index, base=base)
-        try:
-            self._send(digest, index, away, base)
-        except BaseException:
-            self.release(digest, is_answered=False)
-            raise
-        return digest
-
     def release(self, digest: str, is_answered: bool = True) -> None:
         """With the first commit that is answered what this agent's processes before this one held is let go: their commits are decided."""
-        self.folder.release(digest, is_answered)
+        super().release(digest, is_answered)
         if not is_answered:
             return
         with contextlib.suppress(RedisFault):
@@ -109,21 +85,6 @@ class RedisStore:
                 names.update(chunk_names(index))
         return count if isinstance(count, bytes) else b"0", digests, names
 
-    def mend(self, index: bytes) -> bool:
-        return self.folder.mend(index)
-
-    def offer(self, digest: str) -> bool:
-        """Sends a content anew, all of it, where all of it is in this machine's folder."""
-        index = self.folder.index(digest)
-        if not index or self.folder.spoilt(index):
-            return False
-        try:
-            self.folder.fetch(index)
-            self._send(digest, index)
-        except (FarmFault, OSError):
-            return False
-        return True
-
     def _send(self, digest: str, index: bytes, away: Callable[[str], None] | None = None, base: bytes = b"") -> None:
         """Begins again after each fault, since a server that was away may have lost what it took. That it gets further renews its time. Where
         nobody hears that it is away all is sent, and once."""
@@ -143,8 +104,8 @@ class RedisStore:
             except RedisFault as fault:
                 is_away = isinstance(fault, RedisAway) or str(fault).startswith("LOADING")
                 if not is_away or away is None or time.monotonic() > end:
-                    raise FarmFault(f"the store over Redis took no contents: {fault}") from None
-                away(f"waiting for the store over Redis, which takes no contents: {fault}")
+                    raise FarmFault(f"{self.name} took no contents: {fault}") from None
+                away(f"waiting for {self.name}, which takes no contents: {fault}")
             time.sleep(0.5)
 
     def _to_look_for(self, index: bytes, base: bytes) -> list[str]:
@@ -159,60 +120,27 @@ class RedisStore:
         digests = ["" if name in known else hashlib.sha1(self._packed(name)).hexdigest() for name in names] if not anew else []
         commands = [self._script(FIND, self._name("chunk", name), digest) for name, digest in zip(names, digests)]
         there = self.server.calls(commands) if commands else [0] * len(names)
-        sent = [self._script(GIVE, self._name("chunk", name), self._packed(name)) for name, is_there in zip(names, there) if not is_there]
-        if sent:
-            self.server.calls(sent)
+        chunks = [(name, self._packed(name)) for name, is_there in zip(names, there) if not is_there]
+        if chunks:
+            self.server.calls([self._script(GIVE, self._name("chunk", name), packed) for name, packed in chunks])
+            self._moved("given", [packed for _, packed in chunks])
         with self.lock:
-            self.compared.update(dict.fromkeys(names))
-            while len(self.compared) > COMPARED_MOST:
-                del self.compared[next(iter(self.compared))]
+            self._take_compared(names)
 
-    def _packed(self, name: str) -> bytes:
-        with open(chunk_path(self.chunks, name), "rb") as file:
-            return file.read()
-
-    def index(self, digest: str) -> bytes | None:
-        found = self.folder.index(digest)
-        if found is not None:
-            return found
-        try:
-            data = self.server.call("GET", self._name("index", digest), most=LARGEST_CONTENT)
-        except RedisFault:
-            return None
-        return data if isinstance(data, bytes) and hashlib.sha256(data).hexdigest() == digest else None
-
-    def fetch(self, index: bytes) -> None:
-        missing, sizes, bad = self.folder.missing(index), chunk_sizes(index), 0
-        try:
-            with Fresh(self.chunks) as fresh:
-                for at in range(0, len(missing), AT_ONCE):
-                    names = missing[at : at + AT_ONCE]
-                    for name, data in zip(names, self._packed_there(names, sizes)):
-                        bad += not self._take(fresh, name, data, sizes[name])
-                fresh.settle()
-        except RedisFault as fault:
-            raise ChunksMissing(f"the store over Redis gave no contents: {fault}") from None
-        if bad:
-            raise ChunksMissing(f"{bad} chunks of a version are neither here nor, as they were made, in the store over Redis")
-        path = f"{self.folder.indexes}/{hashlib.sha256(index).hexdigest()}"
-        if index and self.folder.index(hashlib.sha256(index).hexdigest()) is None:
-            put_file(path, index)  # all of it is here: this machine can offer it
+    def _index_there(self, digest: str) -> object:
+        with contextlib.suppress(RedisFault):
+            return self.server.call("GET", self._name("index", digest), most=LARGEST_CONTENT)
+        return None
 
     def _packed_there(self, names: list[str], sizes: dict[str, int]) -> list[object]:
-        """What the server has of some chunks: no more than they can have, packed."""
-        most = sum(sizes[name] + (sizes[name] >> 8) + SPARE for name in names)
-        return list(self.server.calls([("GET", self._name("chunk", name)) for name in names], most))
-
-    def _take(self, fresh: Fresh, name: str, data: object, size: int) -> bool:
-        """Puts a chunk into the folder, where it is what its name says."""
-        for packed in (data, data[SEAL:]) if isinstance(data, bytes) else ():
-            if unpacked_of(name, packed, size) is not None:
-                fresh.add(name, packed)
-                return True
-        return False
+        most = sum(most_packed(sizes[name]) for name in names)
+        try:
+            return list(self.server.calls([("GET", self._name("chunk", name)) for name in names], most))
+        except RedisFault as fault:
+            raise ChunksMissing(f"{self.name} gave no contents: {fault}") from None
 
     def forget(self, ask: Callable[[], set[str]], grace: float, tell: Callable[[str], None] = lambda digest: None) -> tuple[int, int]:
-        """Removes from Redis what `FolderStore.forget` removes from a folder. Where something was held meanwhile it begins anew."""
+        """Removes from Redis what is removed from a folder. Where something was held meanwhile it begins anew."""
         indexes, chunks, told = 0, 0, set[str]()
         try:
             for _ in range(TURNS_MOST):
@@ -227,6 +155,23 @@ class RedisStore:
         except RedisFault as fault:
             raise FarmFault(f"the store over Redis forgot nothing more: {fault}") from None
         raise FarmFault("commits came again and again, and the store over Redis forgot nothing more: begin it anew")
+
+    def tally(self) -> Tally:
+        """Sizes are of the values: what Redis needs beside them it says itself (`INFO memory`)."""
+        try:
+            now = int(self.server.call("TIME")[0])
+            indexes, chunks = ({digest: (size, given) for digest, size, given in self._sizes(kind)} for kind in ("index", "chunk"))
+        except (RedisFault, ValueError, TypeError, IndexError) as fault:
+            raise FarmFault(f"{self.name} doesn't say what it has: {fault}") from None
+        return Tally({digest: Kept(now - given, size) for digest, (size, given) in indexes.items()}, {name: size for name, (size, _) in chunks.items()})
+
+    def _sizes(self, kind: str) -> Iterator[tuple[str, int, float]]:
+        """Of each key of a kind its bytes, and when it was given."""
+        names = self._kept(kind)
+        for at in range(0, len(names), TALLIED_AT_ONCE):
+            keys = [self._name(kind, name) for name in names[at : at + TALLIED_AT_ONCE]]
+            told = self.server.calls([command for key in keys for command in (("STRLEN", key), ("ZSCORE", f"{self.farm}:given", key))])
+            yield from ((name, int(size), float(given or 0)) for name, size, given in zip(names[at:], told[::2], told[1::2]))
 
     def _kept(self, kind: str) -> list[str]:
         """The names of the keys of a kind."""

@@ -68,6 +68,16 @@ class Browser:
             time.sleep(0.1)
         return False
 
+    def key(self, key: str) -> None:
+        for kind in ("keyDown", "keyUp"):
+            self.call("Input.dispatchKeyEvent", type=kind, key=key)
+
+    def drag(self, x: float, y: float, to: float) -> None:
+        """Drags from one place to another one at the same height."""
+        for kind, at, buttons in (("mousePressed", x, 1), ("mouseMoved", (x + to) / 2, 1), ("mouseMoved", to, 1), ("mouseReleased", to, 0)):
+            button = "none" if kind == "mouseMoved" else "left"
+            self.call("Input.dispatchMouseEvent", type=kind, x=at, y=y, button=button, buttons=buttons, clickCount=1)
+
     def picture(self, path: str) -> None:
         with open(path, "wb") as file:
             file.write(base64.b64decode(self.call("Page.captureScreenshot")["data"]))

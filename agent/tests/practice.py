@@ -11,6 +11,7 @@ import hashlib
 import hmac
 import json
 import os
+import re
 import sys
 import time
 from typing import Any, NoReturn
@@ -21,12 +22,18 @@ EMPTY = hashlib.sha256(b"").hexdigest()
 class Out:
     """An answer that is being made."""
 
-    def __init__(self, key: bytes) -> None:
-        self.key = key
+    def __init__(self, key: bytes, is_farm: bool) -> None:
+        self.key, self.is_farm = key, is_farm
         self.lines: list[str] = []
 
     def mac(self, text: str) -> str:
-        return hmac.new(self.key, text.encode(), hashlib.sha256).hexdigest()
+        words = text.split(" ")
+        if words[0] in ("fetch", "blob"):
+            return "-"
+        key = self.key
+        if self.is_farm:
+            key = hmac.new(key, f"key of node {words[1] if words[1:] else ''} in epoch 0".encode(), hashlib.sha256).hexdigest().encode()
+        return hmac.new(key, text.encode(), hashlib.sha256).hexdigest()
 
     def send(self, *words: object) -> None:
         text = " ".join(str(word) for word in words)
@@ -398,7 +405,11 @@ def main() -> NoReturn:
         sys.stderr.write("fault Locked\n")
         sys.exit(4)
     with open(given["--key"], "rb") as file:
-        out = Out(file.read().removesuffix(b"\n"))
+        key = file.read().removesuffix(b"\n")
+    if words[0] == "node" and not re.fullmatch(b"[0-9a-f]{64}", key):
+        sys.stderr.write("refused BadKey\n")
+        sys.exit(1)
+    out = Out(key, words[0] == "coordinator")
     served: Coordinator | Node
     if words[0] == "coordinator":
         served = Coordinator(out, path)

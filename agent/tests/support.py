@@ -13,14 +13,15 @@ import sys
 import tempfile
 import time
 import unittest
-from typing import Callable, Iterator
+from typing import IO, Callable, Iterator
 from unittest import mock
 
 from agent.commands.main import main
+from agent.filters.coordinator import CoordinatorAgent
 from agent.filters.node import Setup
 from agent.folders.index import make_whole
 from agent.store.folder import FolderStore, Store
-from agent.transport.hints import make_key
+from agent.transport.keys import FarmKey, make_key
 from agent.transport.local import Transport
 
 HERE = os.path.dirname(os.path.abspath(__file__))
@@ -92,8 +93,13 @@ class Heard:
 def setup_of(room: str, program: str, transport: Transport) -> Setup:
     """What an agent of a test is made of."""
     return Setup(
-        program=program, home=room, key=make_key(f"{room}/key"), store=FolderStore(f"{room}/contents"), transport=transport, log=lambda text: None
+        program=program, home=room, key=FarmKey(make_key(f"{room}/key")), store=FolderStore(f"{room}/contents"), transport=transport
     )
+
+
+def coordinator_of(setup: Setup) -> CoordinatorAgent:
+    assert isinstance(setup.key, FarmKey)
+    return CoordinatorAgent(setup, setup.key)
 
 
 class FarmTest(RoomTest):
@@ -123,10 +129,10 @@ class FarmTest(RoomTest):
                 pass
             until(lambda: is_over(pid))
 
-    def up(self, *words: str) -> subprocess.Popen[str]:
+    def up(self, *words: str, log: IO[str] | None = None) -> subprocess.Popen[str]:
         """Starts a part of the farm, and waits until it stands."""
         started = subprocess.Popen(
-            [*FARM, *words], env=self.env, stdout=subprocess.PIPE, text=True, stdin=subprocess.DEVNULL, cwd=self.room
+            [*FARM, *words], env=self.env, stdout=subprocess.PIPE, stderr=log, text=True, stdin=subprocess.DEVNULL, cwd=self.room
         )
         self.ups.append(started)
         assert started.stdout

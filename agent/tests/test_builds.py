@@ -1,6 +1,7 @@
 """Builds of Dockerfiles, with buildah; and what is refused before it is called."""
 from __future__ import annotations
 
+import hashlib
 import json
 import os
 import shutil
@@ -12,9 +13,11 @@ from unittest import mock
 
 from agent.build.buildah import Buildah
 from agent.build.builder import Image, check_tag
+from agent.build.isolation import Isolation, found
 from agent.runs.executions import can_have_namespaces
 from agent.faults import FarmFault
 from agent.service.requests import BuildOptions
+from agent.words import short_name
 
 from agent.tests import support
 
@@ -86,6 +89,104 @@ RUN --mount=type=cache,id=m,target=/m,mode=0711 ["/bin/busybox", "sh", "/work"]
             self.assertRegex(said, f"merged 1 path into locked:m version [23]\n(.*\n)*farm: image sha256:[0-9a-f]+ is tagged {who}")
         self.asked("get", "locked:m", self.path("m"))
         self.assertEqual((sorted(os.listdir(self.path("m"))), os.stat(self.path("m")).st_mode & 0o777), (["one", "two", "zero"], 0o711))
+
+    @unittest.skipUnless(support.has("buildah"), support.needs("buildah"))
+    @unittest.skipUnless(support.has("busybox"), "busybox-static isn't installed")
+    @unittest.skipUnless(support.is_root and can_have_namespaces(), "buildah's chroot isolation is tried as root, with namespaces")
+    def test_must_commit(self) -> None:
+        """What a build left in a SHARED folder that another one still uses counts later, or never; with --must-commit it waits for that."""
+        shutil.copy(shutil.which("busybox") or "", self.path("context/busybox"))
+        self.write("context/work", "touch /s/$WHO; [ ${WHO%?} != long ] || until [ -e /s/go ]; do /bin/busybox sleep 0.1; done; rm -f /s/go\n")
+        self.write("context/Dockerfile", """FROM scratch
+COPY busybox /bin/busybox
+COPY work /work
+ARG WHO
+RUN --mount=type=cache,target=/s ["/bin/busybox", "sh", "/work"]
+""")
+        agent, home = self.up("up", "--nodes", "1"), f"{self.home}/node1/shared/{short_name('shared:/s')}"
+        for turn, status in (("1", 0), ("2", 75)):
+            held = self.begin("build", "--build-arg", f"WHO=long{turn}", "context")
+            self.wait_for(f"{home}/long{turn}")
+            self.assertIn("is committed after them", self.farm("build", "--build-arg", f"WHO=plain{turn}", "context").stderr)
+            waits = self.begin("build", "--must-commit", "--build-arg", f"WHO=waits{turn}", "-t", f"app{turn}", "context")
+            self.hear(waits, "waiting for shared:/s: others use it here")
+            if status:
+                agent.kill()
+            else:
+                self.write(f"home/node1/shared/{os.path.basename(home)}/go", "")
+            said = waits.communicate(timeout=support.PATIENCE)[1]
+            held.communicate(timeout=support.PATIENCE)
+            self.assertEqual((waits.returncode, held.returncode, f"is tagged app{turn}" in said), (status, status, not status), said)
+        agent.wait()
+        self.up("up", "--nodes", "1")
+        self.asked("get", "shared:/s", self.path("got"))
+        self.assertEqual(sorted(os.listdir(self.path("got"))), ["long1", "plain1", "waits1"])
+
+    @unittest.skipUnless(support.has("buildah"), support.needs("buildah"))
+    @unittest.skipUnless(support.has("busybox"), "busybox-static isn't installed")
+    @unittest.skipUnless(support.is_root and can_have_namespaces() and found().is_wall, "no OCI runtime works here")
+    def test_wall(self) -> None:
+        """A step can't read the farm's key, by whatever path, and a mount's target behind a link is made within the image alone."""
+        shutil.copy(shutil.which("busybox") or "", self.path("context/busybox"))
+        os.mkdir(self.path("outside"))
+        self.write("context/work", f"for root in '' /proc/1/root /proc/*/root/; do cat $root{self.home}/key; done\n/bin/busybox ps -o args; echo kept > /l/k/x/f\n")
+        self.write("context/Dockerfile", f"""FROM scratch
+COPY busybox /bin/busybox
+COPY work /work
+RUN ["/bin/busybox", "mkdir", "/l"]
+RUN ["/bin/busybox", "ln", "-s", "{self.path('outside')}", "/l/k"]
+RUN --mount=type=cache,id=w,sharing=locked,target=/l/k/x ["/bin/busybox", "sh", "/work"]
+""")
+        done = self.farm("build", "context")
+        self.assertNotIn(self.read("home/key").strip(), done.stdout)
+        self.assertNotRegex(done.stdout, "(?m)^(buildah|python3|.*farmd) ")
+        self.assertEqual(os.listdir(self.path("outside")), [])
+        self.asked("get", "locked:w", self.path("w"))
+        self.assertEqual(self.read("w/f"), "kept\n")
+
+    @unittest.skipUnless(support.has("buildah"), support.needs("buildah"))
+    @unittest.skipUnless(support.has("busybox"), "busybox-static isn't installed")
+    @unittest.skipUnless(support.is_root and can_have_namespaces(), "buildah's chroot isolation is tried as root, with namespaces")
+    def test_layers(self) -> None:
+        """Instructions are cached up to a RUN with a cache mount, which runs each time, also after a build that failed behind it."""
+        shutil.copy(shutil.which("busybox") or "", self.path("context/busybox"))
+        self.write("context/work", "cat /l/f; echo line >> /l/f\n")
+        self.write("context/Dockerfile", """FROM scratch AS before
+COPY busybox /bin/busybox
+RUN ["/bin/busybox", "touch", "/plain"]
+FROM before
+COPY work /work
+RUN --mount=type=cache,id=l,sharing=locked,target=/l ["/bin/busybox", "sh", "/work"]
+ARG WHO
+RUN --mount=type=cache,id=l,sharing=locked,target=/l,ro ["/bin/busybox", "sh", "-c", "[ $WHO != bad ]"]
+""")
+        rows: list[tuple[list[str], str, int, int, int]] = [  # words, who, status, cached instructions, lines found
+            (["--layers"], "one", 0, 0, 0), (["--layers"], "bad", 1, 3, 1), (["--layers"], "one", 0, 3, 1), (["--layers", "--no-cache"], "one", 0, 0, 2),
+        ]
+        for words, who, status, cached, lines in rows:
+            done = self.farm("build", *words, "--build-arg", f"WHO={who}", "-t", "app", "context", status=status)
+            found = (done.stdout + done.stderr).count("Using cache"), done.stdout.splitlines().count("line")
+            self.assertEqual(found, (cached, lines), f"{words} {who}: {done.stdout}{done.stderr}")
+            self.assertNotIn("lost its name", done.stderr)
+        self.asked("get", "locked:l", self.path("got"))
+        self.assertEqual(self.read("got/f"), "line\n" * 3)
+        self.assertIn("caches instructions by itself", self.asked("build", "--layers", "--builder", "docker", "context", status=64))
+
+    def test_slow_runtime(self) -> None:
+        """A runtime that is slow isn't one that doesn't work: no build runs without a wall for that."""
+        program = self.write("crun", "#!/bin/sh\nsleep 5\n")
+        os.chmod(program, 0o755)
+        with mock.patch("agent.build.isolation.PATIENCE", 0.3), mock.patch.dict(os.environ, {"PATH": f"{self.room}:{os.environ['PATH']}"}):
+            with self.assertRaisesRegex(FarmFault, "ran no container within 0 seconds: try again"):
+                found()
+
+    def test_networks(self) -> None:
+        """A step has a network of its own where either of the programs that make one is there, and the machine's only where none is."""
+        rows = [("/usr/lib/cni/bridge", []), ("/usr/lib/podman/netavark", []), ("/nowhere", ["--network=host"])]
+        for there, wanted in rows:
+            with mock.patch("os.path.exists", lambda path: path == there):
+                words = Isolation("/bin/crun").words("/room", None)
+            self.assertEqual([word for word in words if word.startswith("--network")], wanted, there)
 
     def tags(self) -> None:
         """buildah takes the names that are taken here, and no other ones."""
@@ -188,6 +289,29 @@ class Unnamed(support.RoomTest):
             self.builder.tag(new, "app")
             self.assertEqual(self.builder.drop_unnamed(), ["an image that lost its name may stay: buildah images: it ended with status 9"])
         self.assertEqual((self.builder.drop_unnamed(), self.left()), ([], {new}))
+
+
+class Caches(support.RoomTest):
+    def test_places(self) -> None:
+        """The mounts lie where this version of buildah looks for them; where that can't be told nothing is built."""
+        rows: list[tuple[str, str, str]] = [  # its version, the folder that it makes of the id `farm-probe`, and where it has another id
+            ("1.28.2", "nowhere", "buildah-cache/{id}"), ("1.33.7", "buildah-cache-0/farm-probe", "buildah-cache-0/{id}"),
+            ("1.39.3", "buildah-cache-0/2befea2b5e29ff66", "buildah-cache-0/{digest}"), ("2.0", "elsewhere", ""),
+        ]
+        os.mkdir(self.path("bin"))
+        for version, made, place in rows:
+            self.write("bin/buildah", f'#!/bin/sh\nfor word; do [ $word != --version ] || exec echo buildah version {version}; done\nmkdir -p $TMPDIR/{made}; exit 1\n')
+            os.chmod(self.path("bin/buildah"), 0o755)
+            with self.subTest(version), mock.patch("os.geteuid", return_value=0):
+                with mock.patch.dict("os.environ", {"PATH": f"{self.path('bin')}:{os.environ['PATH']}"}):
+                    builder = Buildah(self.path("containers"))
+                    if not place:
+                        with self.assertRaisesRegex(FarmFault, "this buildah keeps cache mounts where no leased folder can be"):
+                            builder.enter(self.room, ["locked:a"], lambda: None)
+                        continue
+                    mount = builder.enter(self.room, ["locked:a"], lambda: None)[0]
+                digest = hashlib.sha256(mount.id.encode()).hexdigest()[:16]
+                self.assertEqual(mount.path, f"{self.room}/tmp/{place.format(id=mount.id, digest=digest)}")
 
 
 @unittest.skipUnless(support.has("buildah"), support.needs("buildah"))

@@ -16,7 +16,7 @@ from typing import Callable
 from unittest import mock
 
 from agent.faults import FarmFault, LifeOver
-from agent.filters.coordinator import CoordinatorAgent
+from agent.filters.bounds import Bounds
 from agent.filters.node import NodeAgent
 from agent.service.serving import close_to_others
 from agent.transport.local import LocalTransport
@@ -152,7 +152,7 @@ class OldRecords(support.FarmTest):
             words = ("coordinator", "--nodes", "1", "--home")
             first = self.up(*words, self.path("c"))
             os.makedirs(self.path("n1"))
-            shutil.copy(self.path("c/key"), self.path("n1/key"))
+            self.asked("key", "1", "--home", self.path("c"), self.path("n1/node.key"))
             self.up("node", "1", "--nodes", "1")
             self.run_on("echo one > w/f")
             shutil.copytree(self.path("c"), self.path("old"), ignore=lambda folder, names: [name for name in names if name.endswith(".sock")])
@@ -253,11 +253,53 @@ class Raced(support.RoomTest):
             self.race(leave, lambda: agent._hear_note("life 5"))
 
     def test_since(self) -> None:
-        agent, tickets = CoordinatorAgent(self.setup_of), iter(range(10**6))
+        agent, tickets = support.coordinator_of(self.setup_of), iter(range(10**6))
         with mock.patch("agent.filters.coordinator.SINCE_MOST", 5):
             work = lambda: agent._hear_grants([f"granted 1 1 1 {next(tickets)} plain locked:a=0:00 aa" for _ in range(20)])  # noqa: E731
             self.race(work, work, work)
         self.assertEqual(len(agent.since), 5)
+
+
+class Lied(support.RoomTest):
+    def test_unproven(self) -> None:
+        """What a node tells beyond the record keeps that node out where it doesn't prove it, and stops the coordinator where it does."""
+        setup = support.setup_of(self.room, os.environ.get("FARMCTL", support.PRACTICE), LocalTransport())
+        agent = support.coordinator_of(setup)
+        agent.talk.start()
+        self.addCleanup(agent.stop)
+
+        def tells(node: int, ticket: str, *words: str) -> None:
+            agent.receive([agent.key.of_node(node).hints().seal(" ".join(["knows", str(node), agent.watch.own, "0", "1", ticket, *words]))])
+
+        with contextlib.redirect_stderr(io.StringIO()) as heard:
+            for ticket, word in (("ticket=999:granted", "locked:a=0:00"), ("ticket=0:granted", f"locked:a=7:{'a' * 64}"), ("ticket=9:granted:" + "0" * 32, "locked:a=0:00")):
+                tells(1, ticket, word)
+                tells(2, "ticket=0:granted")
+                self.assertEqual((agent.watch.told, agent.watch.fault), ({2}, None), ticket)
+        self.assertRegex(heard.getvalue(), "node 1 isn't answered: it tells that ticket 999 was granted, .*without a proof")
+        tells(1, "ticket=0:granted")
+        self.assertEqual(agent.watch.told, {1, 2})
+        word = "ticket=9:granted"
+        with self.assertRaisesRegex(FarmFault, "older than the farm.*node 1 tells that ticket 9 was granted"):
+            tells(1, f"{word}:{agent.key.proof(word)}")
+
+
+class Bounded(support.RoomTest):
+    def test_most(self) -> None:
+        """What a node asks beyond its bound is lost, until it has less; others aren't held back."""
+        held, passed = {1: 0, 2: 0}, []
+        bounds = Bounds(3, lambda node: held[node])
+        with mock.patch("agent.filters.bounds.LOOK_EVERY", 0.0), contextlib.redirect_stderr(io.StringIO()) as heard:
+            for ask in range(5):
+                passed.append(bounds.may_pass(f"acquire 1 7 {ask} locked:a x"))
+                held[1] += passed[-1]
+            self.assertEqual(passed, [True, True, True, False, False])
+            self.assertEqual([bounds.may_pass(line) for line in ("commit 1 7 1 x", "tenure 2 7 1 shared:a x", "acquire", "acquire 99999 1 1 x")], [True] * 4)
+            held[1] = 2
+            self.assertEqual(bounds.may_pass("tenure 1 7 9 shared:a x"), True)
+            held[1] = 3
+            self.assertEqual(bounds.may_pass("tenure 1 7 10 shared:a x"), False)
+        self.assertEqual(heard.getvalue(), "farm: node 1 is held back: it has 3 leases and asks, where --most-asks is 3\n")
 
 
 class Divided(support.RoomTest):
@@ -268,11 +310,11 @@ class Divided(support.RoomTest):
         agent.talk.start()
         self.addCleanup(agent.stop)
         seal = agent.hints.seal
-        agent.receive(seal(f"known 1 5 locked:a=3:{'a' * 64}"))
-        agent.receive(seal(f"known 1 5 locked:a=2:{'b' * 64}"))
+        agent.receive(seal(f"known 1 ticket=5:granted locked:a=3:{'a' * 64}"))
+        agent.receive(seal(f"known 1 ticket=5:granted locked:a=2:{'b' * 64}"))
         agent.check_retired()
         with contextlib.redirect_stderr(io.StringIO()) as heard:
-            agent.receive(seal(f"known 1 6 locked:a=3:{'c' * 64}"))
+            agent.receive(seal(f"known 1 ticket=6:granted locked:a=3:{'c' * 64}"))
         self.assertRegex(heard.getvalue(), f"node 1 takes part in nothing more: locked:a version 3 is known as {'a' * 64}, and is told as {'c' * 64}")
         with self.assertRaisesRegex(FarmFault, "takes part in nothing more"):
             agent.check_retired()

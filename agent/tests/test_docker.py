@@ -1,14 +1,21 @@
 """Dockerfiles as BuildKit reads them, and what Docker's builder refuses; without a daemon."""
 from __future__ import annotations
 
+import base64
+import json
 import os
 import re
+import shutil
+import subprocess
 import unittest
+from typing import TextIO
 from unittest import mock
 
+from agent.build import isolation
+from agent.build.buildah import Buildah
 from agent.build.builder import CacheMount
 from agent.build.cacheids import CacheIds
-from agent.build.docker import Docker
+from agent.build.docker import Docker, cli
 from agent.build.dockerfile import Base, Plan, Reader, plan
 from agent.build.dockertext import BadDockerfile
 from agent.build.engine import host_path
@@ -17,6 +24,7 @@ from agent.faults import FarmFault, UsageFault
 from agent.service.requests import BuildOptions
 from agent.tests import support
 from agent.tests.test_dockerfile import base
+from agent.trials.docker import Daemon
 
 T = "--mount=type=cache"
 OLD, NEW = Reader(True), Reader(True, True)  # Docker 20.10 and 23.0
@@ -113,7 +121,9 @@ class Ids(support.RoomTest):
         ids = CacheIds(self.path("mounts"))
         seen: set[str] = set()
         for ended_well in (True, True, False, True, None, True):
-            taken = ids.take(["locked:a", "locked:b"])
+            mounts = ids.take(["locked:a", "locked:b"])
+            taken = {mount.slot: mount.id for mount in mounts}
+            self.assertEqual(bool(mounts[0].path), mounts[0].id in seen)
             ids.found(CacheMount("locked:a", taken["locked:a"], f"/d/{len(seen)}"))
             if ended_well is None:  # its agent was killed
                 ids = CacheIds(self.path("mounts"))
@@ -131,19 +141,37 @@ class Ids(support.RoomTest):
     def test_withdrawn(self) -> None:
         """A build whose lease was withdrawn goes on with its own id: that of the next one isn't its to say of."""
         ids = CacheIds(self.path("mounts"))
-        first = ids.take(["locked:a"])["locked:a"]
+        first = ids.take(["locked:a"])[0].id
         with mock.patch("agent.build.cacheids.ENDING", 0.0):
-            second = ids.take(["locked:a"])["locked:a"]
+            second = ids.take(["locked:a"])[0].id
         self.assertEqual(ids.old(["locked:a"]), [])  # it still runs
         ids.leave("locked:a", first, True)
         self.assertEqual([each[1] for each in ids.old(["locked:a"])], [first])
         ids.leave("locked:a", second, True)
-        self.assertEqual(ids.take(["locked:a"])["locked:a"], second)
+        self.assertEqual(ids.take(["locked:a"]), [CacheMount("locked:a", second, "")])
+        ids.found(CacheMount("locked:a", second, "/d"), "daemon")
+        ids.leave("locked:a", second, True)
+        self.assertEqual([ids.take(["locked:a"], daemon)[0].path for daemon in ("daemon", "other")], ["/d", ""])
 
 
 class Refusing(support.FarmTest):
     def docker(self, host: str) -> Docker:
         return Docker(self.path("docker"), host, lambda: mock.MagicMock())
+
+    def test_platforms(self) -> None:
+        """A base that is here for another platform alone is got before anything is leased, and not amid the build."""
+        here = {"Os": "linux", "Architecture": "arm64", "Variant": "v8", "Config": {}}
+        rows = [(None, 0), ("linux/arm64", 0), ("linux/arm64/v8", 0), ("linux/amd64", 1), ("linux/arm64/v7", 1), ("windows/arm64", 1)]
+        for platform, pulls in rows:
+            docker = self.docker("unix:///x.sock")
+            with mock.patch.object(docker.engine, "ask", return_value=here), mock.patch.object(docker, "_done") as done:
+                docker.base_of("box", BuildOptions(platform=platform), lambda: None)
+            self.assertEqual([call.args[1:4] for call in done.mock_calls], [("pull", f"--platform={platform}", "box")] * pulls)
+            buildah = Buildah(self.path("buildah"))
+            told = json.dumps({"OCIv1": {"os": "linux", "architecture": "arm64", "variant": "v8"}})
+            with mock.patch.object(buildah, "_call", return_value=subprocess.CompletedProcess([], 0, told, "")) as call:
+                buildah.base_of("box", BuildOptions(platform=platform), lambda: None)
+            self.assertEqual(sum(each.args[0] == "pull" for each in call.mock_calls), pulls)
 
     def test_check(self) -> None:
         builder = self.docker("unix:///x.sock")
@@ -179,7 +207,8 @@ class Refusing(support.FarmTest):
         self.assertIn(f"no Docker daemon answers at unix://{self.room}/no.sock: No such file", said)
         self.assertNotIn("ticket", said)
         rows = [(["--cache-from", "x"], "goes with"), (["--builder", "docker", "--format", "oci"], "buildah's"), (["--push"], "wants the name"),
-                (["--network", "none"], "this machine's network"), (["--platform", "a/b,c/d"], "one platform")]
+                (["--platform", "a/b,c/d"], "one platform")]
+        rows += [] if isolation.found().is_wall else [(["--network", "none"], "this machine's network")]
         for row, why in rows:
             self.assertIn(why, self.asked("build", *row, self.path("context"), status=64))
 
@@ -215,6 +244,90 @@ class Refusing(support.FarmTest):
         for number, place in ((here.st_ino + 1, root), (here.st_ino, root + "/no")):
             with self.assertRaisesRegex(FarmFault, "isn't on this machine"):
                 host_path(mark, place, here.st_dev, number)
+
+
+REGISTRY = """version: 0.1
+storage: {{filesystem: {{rootdirectory: {room}/registry}}}}
+http: {{addr: "127.0.0.1:{port}"}}
+auth: {{htpasswd: {{realm: farm, path: {room}/users}}}}
+"""
+USER, PASSWORD = "farm-user", "hidden-word"
+HASHED = "$2b$04$Jx.HJj0Rh/3YLO8ciD7rAORd6jUv6JN8djjpbkU69y0.krLcTdRPC"
+BASE = 'FROM scratch\nCOPY busybox /bin/busybox\nRUN ["/bin/busybox", "--install", "/bin"]\nENV PATH=/bin\n'
+ALL = """FROM {base} AS wanted
+ARG GIVEN OWN TARGETARCH
+RUN --mount=type=secret,id=file --mount=type=secret,id=word --mount=type=ssh --mount=type=cache,target=/c,sharing=locked \\
+  echo found $GIVEN $OWN $TARGETARCH $(grep -c 'of.a.file' /run/secrets/file) $(grep -c 'of.a.word' /run/secrets/word) \\
+  $([ -S $SSH_AUTH_SOCK ] && echo ssh) $(ls /sys/class/net | wc -l) | tee /c/found
+FROM {base}
+RUN false
+"""
+
+
+@unittest.skipUnless(all(map(support.has, ("casync", "busybox", "docker-registry", "ssh-agent"))) and support.is_root, "a tool isn't installed, or it isn't root")
+class Options(support.FarmTest):
+    """What a build leaves to its builder, with a registry that wants a login."""
+
+    def setUp(self) -> None:
+        super().setUp()
+        port = support.free_port()
+        self.base = f"127.0.0.1:{port}/base"
+        self.write("registry.yml", REGISTRY.format(room=self.room, port=port))
+        self.write("users", f"{USER}:{HASHED}\n")
+        with open(self.path("log"), "w") as log:
+            self.start("docker-registry", "serve", self.path("registry.yml"), log=log)
+            self.start("ssh-agent", "-D", "-a", self.path("ssh"), log=log)
+        support.wait_port(port)
+        login = base64.b64encode(f"{USER}:{PASSWORD}".encode()).decode()
+        self.write("logins/config.json", json.dumps({"auths": {f"127.0.0.1:{port}": {"auth": login}}}))
+        self.write("nobody/config.json", "{}")
+        for place in ("", "node1/containers/"):  # what a machine's /etc/containers says to buildah
+            self.write(f"home/{place}.config/containers/registries.conf", f'[[registry]]\nlocation = "127.0.0.1:{port}"\ninsecure = true\n')
+        os.makedirs(self.path("context"))
+        shutil.copy(shutil.which("busybox") or "", self.path("context/busybox"))
+        self.write("context/first", BASE)
+        self.write("context/Dockerfile", ALL.format(base=f"{self.base}:1"))
+        self.write("secret", "of a file\n")
+        self.env |= {"SSH_AUTH_SOCK": self.path("ssh"), "WORD": "of a word", "OWN": "own", "DOCKER_CONFIG": self.path("logins")}
+        os.chmod(self.home, 0o700)
+
+    def start(self, *words: str, log: TextIO) -> subprocess.Popen[bytes]:
+        process = subprocess.Popen(words, stdin=subprocess.DEVNULL, stdout=log, stderr=log)
+        self.addCleanup(process.wait)
+        self.addCleanup(process.terminate)
+        return process
+
+    def tried(self, *builder: str, forget: list[str]) -> None:
+        build = ["build", *builder, "--network", "none"]
+        pushed = self.farm(*build, "-q", "--iidfile", self.path("id"), "-t", f"{self.base}:1", "-t", f"{self.base}:2", "--push", "-f", "first", "context")
+        self.assertEqual(pushed.stdout.strip().removeprefix("sha256:"), self.read("id").removeprefix("sha256:"))
+        self.assertIn(f"is pushed to {self.base}:2", pushed.stderr)
+        self.env["DOCKER_CONFIG"] = self.path("nobody")
+        self.assertRegex(self.farm(*build, "-t", f"{self.base}:3", "--push", "-f", "first", "context", status=70).stderr, "base:3 can't be pushed: ")
+        subprocess.run([*forget, f"{self.base}:1", f"{self.base}:2", f"{self.base}:3"], check=True, capture_output=True, env=self.env)
+        words = ["--secret", f"id=file,src={self.path('secret')}", "--secret", "id=word,env=WORD", "--ssh", "default", "--target", "wanted"]
+        words += ["--build-arg", "GIVEN=given", "--build-arg", "OWN", "--platform", "linux/amd64", "--pull", "context"]
+        self.assertIn("can't be pulled", self.farm(*build, *words, status=65).stderr)
+        self.env["DOCKER_CONFIG"] = self.path("logins")
+        self.farm(*build, *words)
+        self.asked("get", "locked:/c", self.path("got"))
+        self.assertEqual(self.read("got/found"), "found given own amd64 1 1 ssh 1\n")
+        for found in (PASSWORD, json.loads(self.read("logins/config.json"))["auths"], "of a file", "of a word"):
+            word = found if isinstance(found, str) else next(iter(found.values()))["auth"]
+            left = subprocess.run(["grep", "-rl", "-e", word, self.home], capture_output=True, text=True).stdout
+            self.assertEqual(left, "", f"{word} is left in the node's home")
+
+    @unittest.skipUnless(support.has("buildah") and isolation.found().is_wall, "buildah or an OCI runtime isn't installed")
+    def test_buildah(self) -> None:
+        self.tried(forget=["buildah", *Buildah(f"{self.home}/node1/containers").storage, "rmi", "--force"])
+
+    @unittest.skipUnless(support.has("dockerd") and support.has("docker"), support.needs("docker"))
+    def test_docker(self) -> None:
+        daemon = Daemon(self.path("daemon"), False)
+        self.addCleanup(daemon.stop)
+        daemon.start()
+        self.env["DOCKER_HOST"] = daemon.host
+        self.tried("--builder", "docker", forget=[cli(), "image", "rm", "--force"])
 
 
 if __name__ == "__main__":

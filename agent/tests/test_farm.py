@@ -22,12 +22,13 @@ from agent.runs.executions import can_have_namespaces
 from agent.faults import ClientGone, FarmFault, LifeOver, WaitOver
 from agent.filters.lines import Answer, Pauses
 from agent.filters.node import NodeAgent
-from agent.transport.redis_wire import Redis
+from agent.transport.redis_wire import Redis, RedisFault, signed_in
 from agent.runs.run import Job, Run
 from agent.service.carried import written
 from agent.service.requests import RunRequest, StoreRequest
 from agent.service.sockets import Connection, Service, handled
 from agent.folders.shared import Closed, SharedFolders, Tenure
+from agent.transport.keys import make_key, node_key
 from agent.transport.local import COORDINATOR, LocalTransport
 from agent.words import EMPTY, Slot, Want
 
@@ -57,7 +58,7 @@ class Alone(support.FarmTest):
             os.umask(own)
         self.assertEqual(self.read("seen"), "one\n")
         self.farm("run", "--folder", "locked:c=w", "--", "sh", "-c", "echo two >> w/f")
-        self.assertRegex(self.asked("log", "locked:c"), r"\Alocked:c version 1 ticket 1 [0-9a-f]{64}\nlocked:c version 2 ticket 6 ")
+        self.assertRegex(self.asked("log", "locked:c"), r"\Alocked:c version 1 ticket 1 [0-9a-f]{64} 20[^\n]* held [0-9.]+ s\nlocked:c version 2 ticket 6 ")
         many = [word for number in range(17) for word in ("--folder", f"locked:{number}=w{number}")]
         self.assertIn("at most 16", self.asked("run", *many, "--", "true", status=64))
         self.assertIn("named twice", self.asked("run", "--folder", "locked:c=w", "--folder", "locked:c=v", "--", "true", status=64))
@@ -246,16 +247,18 @@ class Alone(support.FarmTest):
             self.write(name, name)
         self.farm("put", "locked:p", "seed")
         self.farm("put", "locked:p", "other")
-        for version, names in ((1, ["./", "./a", "./sub/", "./sub/b"]), (2, ["./", "./c"])):
+        self.farm("restore", "locked:p@1")
+        self.assertIn("names no version", self.asked("restore", "locked:p", status=64))
+        for version, names in ((1, ["./", "./a", "./sub/", "./sub/b"]), (2, ["./", "./c"]), (3, ["./", "./a", "./sub/", "./sub/b"])):
             done = subprocess.run([*FARM, "get", f"locked:p@{version}", "-"], env=self.env, cwd=self.room, capture_output=True, timeout=support.PATIENCE)
             self.assertEqual(done.returncode, 0, done.stderr)
             listed = subprocess.run(["tar", "-t"], input=done.stdout, capture_output=True, check=True).stdout.decode()
             self.assertEqual(sorted(listed.split()), names)
         self.assertIn("no folder", self.asked("put", "locked:p", self.path("nowhere"), status=64))
         self.assertIn("name a locked or private one", self.asked("put", "shared:p", self.path("seed"), status=64))
-        self.assertIn("well: the farm's key", self.asked("doctor"))
+        self.assertIn(f"well: the key {self.home}/key", self.asked("doctor"))
         os.chmod(f"{self.home}/key", 0o644)
-        self.assertIn(f"WRONG: the farm's key: others may read it: chmod 600 {self.home}/key", self.asked("doctor", status=70))
+        self.assertIn(f"WRONG: the key {self.home}/key: others may read it: chmod 600 {self.home}/key", self.asked("doctor", status=70))
         os.chmod(f"{self.home}/key", 0o600)
 
     def test_program_from_here(self) -> None:
@@ -446,10 +449,9 @@ class Apart(support.FarmTest):
         with support.redis_server(self.room, "--appendonly", "yes", "--appendfsync", "always") as url:
             self.addCleanup(self.end)
             self.up("coordinator", "--broker", url)
-            self.assertIn("key is missing", self.asked("node", "1", "--home", self.path("n1"), "--broker", url, status=64))
+            self.assertIn("node.key is missing", self.asked("node", "1", "--home", self.path("n1"), "--broker", url, status=64))
             for node in ("1", "2"):
-                os.makedirs(self.path(f"n{node}"), exist_ok=True)
-                shutil.copy2(f"{self.home}/key", self.path(f"n{node}/key"))
+                self.asked("key", node, self.path(f"n{node}/node.key"))
                 self.up("node", node, "--home", self.path(f"n{node}"), "--broker", url)
             for number in range(3):
                 self.run_on(1 + number % 2, f"head -c 200000 /dev/urandom > w{1 + number % 2}/f{number}")
@@ -465,6 +467,32 @@ class Apart(support.FarmTest):
             self.alone(url)
             self.end()
 
+    def test_broker_users(self) -> None:
+        """By its user a node's agent reads its own lines alone, and deletes nothing. The farm works so, and only the coordinator's machine forgets."""
+        make_key(f"{self.home}/key")
+        self.write("users.acl", self.farm("broker-users", "--nodes", "2").stdout + "user default off\n")
+        for node in (1, 2):
+            self.asked("key", str(node), self.path(f"n{node}/node.key"))
+        with support.redis_server(self.room, "--aclfile", self.path("users.acl"), "--appendonly", "yes", "--appendfsync", "always", port=support.free_port()) as server_url:
+            self.addCleanup(self.end)
+            url = server_url.replace("//", "//farm-coordinator@")
+            self.up("coordinator", "--broker", url, "--nodes", "2")
+            for node in (1, 2):
+                self.up("node", str(node), "--nodes", "2", "--home", self.path(f"n{node}"), "--broker", url.replace("coordinator", f"node{node}"))
+                self.assertIn(f"version {node}", self.run_on(node, f"echo {node} >> w{node}/f"))
+            self.assertEqual(self.read("w2/f"), "1\n2\n")
+            self.assertRegex(self.asked("gc", "--keep", "1", "--grace", "0"), "Redis forgot 1 index")
+            key = node_key(self.path("n1/node.key"))
+            server, lines = Redis(signed_in(url.replace("coordinator", "node1"), key.password())), f"farm-{key.names.lines()}:to"
+            refused: tuple[tuple[str | int, ...], ...] = (
+                ("XREVRANGE", f"{lines}:node.2", "+", "-"), ("XREVRANGE", f"{lines}:coordinator", "+", "-"), ("KEYS", "*"), ("DEL", f"{lines}:node.1"),
+                ("FLUSHALL",), ("EVAL", "redis.call('DEL', KEYS[1])", 1, f"farm-{key.names.farm}:holds"), ("SET", "other", "x"),
+            )
+            for words in refused:
+                with self.assertRaisesRegex(RedisFault, "(?i)no permissions|can't run this command|not allowed|permission", msg=words):
+                    server.call(*words)
+            self.end()
+
     def test_store_away(self) -> None:
         """Who waits for a store that is away is told, and may leave. What was left in a SHARED folder, maybe by others too, is committed
         once the store is there again."""
@@ -472,8 +500,7 @@ class Apart(support.FarmTest):
         rows = [("locked:c", signal.SIGINT), ("shared:c", signal.SIGINT), ("shared:d", signal.SIGHUP)][: 3 if can_have_namespaces() else 1]
         with support.redis_server(self.room, *keeps) as url:
             self.up("coordinator", "--broker", url)
-            os.makedirs(self.path("n1"))
-            shutil.copy2(f"{self.home}/key", self.path("n1/key"))
+            self.asked("key", "1", self.path("n1/node.key"))
             self.up("node", "1", "--home", self.path("n1"), "--broker", url)
             script = "echo x > $0/f; touch $0.in; until [ -e go ]; do sleep 0.05; done"
             runs = [self.begin("run", "--home", self.path("n1"), "--folder", f"{folder}={folder}", "--", "sh", "-c", script, folder) for folder, _ in rows]
@@ -507,7 +534,8 @@ class Apart(support.FarmTest):
         self.assertIn("of a farm over a broker", self.asked("up", "--home", self.path("n1"), status=64))
         self.assertIn("has another home", self.asked("coordinator", "--home", self.path("n1"), "--broker", url, status=64))
         self.assertFalse(os.path.exists(self.path("n1/record")))
-        self.write("n1/key", "another farm's key, of more than 32 bytes\n")
+        make_key(self.path("other/key"))
+        self.asked("key", "1", self.path("n1/node.key"), "--home", self.path("other"))
         self.assertIn("served another farm", self.asked("node", "1", "--home", self.path("n1"), "--broker", url, status=64))
 
 
@@ -736,7 +764,7 @@ class Unanswered(support.RoomTest):
         """Whoever waits for the answer to a commit is told, and may leave. The commit is sent again all the same."""
         program, transport = os.environ.get("FARMCTL", support.PRACTICE), Cut()
         setup = support.setup_of(self.room, program, transport)
-        coordinator, node = CoordinatorAgent(setup), NodeAgent(1, 1, setup)
+        coordinator, node = support.coordinator_of(setup), NodeAgent(1, 1, setup)
         agents: list[CoordinatorAgent | NodeAgent] = [coordinator, node]
         for agent in agents:
             agent.talk.start()
@@ -784,7 +812,7 @@ class BadTransport(support.RoomTest):
         """Two nodes add three lines: none is lost, over a transport that loses and repeats."""
         program = os.environ.get("FARMCTL", support.PRACTICE)
         setup = support.setup_of(self.room, program, Lossy())
-        coordinator = CoordinatorAgent(setup)
+        coordinator = support.coordinator_of(setup)
         nodes = [NodeAgent(1, 2, setup), NodeAgent(2, 2, setup)]
         agents: list[CoordinatorAgent | NodeAgent] = [coordinator, *nodes]
         for agent in agents:

@@ -9,7 +9,9 @@ import signal
 import sqlite3
 import subprocess
 import tempfile
+import time
 import unittest
+from concurrent.futures import ThreadPoolExecutor
 from unittest import mock
 
 from agent.faults import FarmFault
@@ -17,6 +19,7 @@ from agent.folders import index, merging, trees
 from agent.folders.held import Held
 from agent.folders.listing import Entry, Listing, entry_text, escaped, text_of, walk
 from agent.folders.versions import none, read
+from agent.runs import merged
 from agent.runs.executions import can_have_namespaces
 from agent.store.chunks import chunk_path
 from agent.store.folder import FolderStore
@@ -160,6 +163,9 @@ class Difference(support.RoomTest):
         self.assertEqual(read(store.chunks, made, none(store.chunks)).listing, version.listing)
 
 
+TRIPLES = int(os.environ.get("TRIPLES", 6000))  # random trees that are merged
+
+
 def tree(dice: random.Random) -> Listing:
     """A small tree of few names."""
     made: Listing = {"": Entry("d", dice.choice([0o755, 0o700]), 0, 0, dice.randrange(3))}
@@ -190,7 +196,7 @@ class Merges(unittest.TestCase):
 
         dice, contested = random.Random(1), 0
         with mock.patch("agent.folders.merging._decided", decided):
-            for turn in range(6000):
+            for turn in range(TRIPLES):
                 base, mine, theirs = tree(dice), tree(dice), tree(dice)
                 if dice.random() < 0.7:  # most of it as it was
                     mine, theirs = (
@@ -206,7 +212,7 @@ class Merges(unittest.TestCase):
                 again = merging.merge("", "", theirs, done.listing, theirs, rule)
                 self.assertEqual({p: entry_text(e) for p, e in again.listing.items()}, {p: entry_text(e) for p, e in done.listing.items()})
                 contested += bool(conflicts)
-        self.assertGreater(contested, 1000)
+        self.assertGreater(contested, TRIPLES // 6)
 
     def test_program(self) -> None:
         """The program itself, over strange names."""
@@ -234,6 +240,19 @@ def fitted(listing: Listing) -> Listing:
         if not path or not above or above in kept and kept[above].kind == "d":
             kept[path] = listing[path]
     return kept
+
+
+class Apart(support.RoomTest):
+    def test_begin_at_once(self) -> None:
+        """Commands that begin at once have folders of their own, however long each takes to be made."""
+        def slow(path: str, exist_ok: bool = False) -> None:
+            time.sleep(0.2 if path[-1].isdigit() else 0.0)
+            make(path, exist_ok=exist_ok)
+
+        make, folders = os.makedirs, merged.MergedFolders(mock.MagicMock(home=self.room))
+        with mock.patch("os.makedirs", slow), ThreadPoolExecutor(4) as pool:
+            taken = list(pool.map(lambda _: folders._take("locked:a", none("")).path, range(4)))
+        self.assertEqual(len(set(taken)), 4, taken)
 
 
 @unittest.skipUnless(support.has("casync"), support.needs("casync"))

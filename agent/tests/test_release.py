@@ -1,16 +1,20 @@
-"""Which program runs, in a checkout of its own: a release, spoilt bytes, changed sources, what was built here."""
+"""Which program runs, in a checkout of its own: a release, spoilt bytes, changed sources, what was built here; what older releases kept."""
 from __future__ import annotations
 
+import hashlib
+import hmac
 import os
+import re
 import shutil
 import stat
 import subprocess
 import sys
 import unittest
-from typing import Callable
+from typing import Callable, Iterable
 from unittest import mock
 
 from agent.tests import support
+from agent.transport.keys import digits_of
 from release import choice, manifest, sources
 
 NAMES = ("farmd", "farmctl")
@@ -161,6 +165,51 @@ class Checkout(unittest.TestCase):
             path = f"{sources.TOP}/release/{name}"
             self.assertEqual((os.path.getsize(path), sources.digest_of(path)), program)
             self.assertTrue(os.stat(path).st_mode & stat.S_IXOTH)
+
+
+class Older(support.RoomTest):
+    """What an earlier release kept, as far as the checkout's history has its program, the present one goes on with."""
+
+    def git(self, *words: str) -> bytes:
+        return subprocess.run(["git", "-C", support.TOP, *words], capture_output=True).stdout
+
+    def talk(self, program: str, *words: str, given: Iterable[str] = ()) -> str:
+        lines = "".join(f"{line}\n" for line in given)
+        call = [program, *words, "--key", self.path("key")]
+        return subprocess.run(call, input=lines, capture_output=True, text=True, check=True, timeout=support.PATIENCE).stdout
+
+    def test_kept(self) -> None:
+        which = subprocess.run([f"{support.TOP}/farmd", "--which"], capture_output=True, text=True)
+        commits = self.git("log", "--format=%H", "--", "release/farmd").decode().split()[1:]
+        if which.returncode or not commits:
+            self.skipTest("no program runs here, or this checkout has no history of releases")
+        self.write("key", "a" * 64)
+        for number, commit in enumerate(commits):
+            old = self.path(f"farmd{number}")
+            with open(os.open(old, os.O_WRONLY | os.O_CREAT, 0o700), "wb") as file:
+                file.write(self.git("show", f"{commit}:release/farmd"))
+            has_one_key = b"version 0.1." in self.git("show", f"{commit}:release/MANIFEST")
+            with self.subTest(commit):
+                self.upgraded(old, which.stdout.strip(), self.path(f"{number}"), has_one_key)
+
+    def upgraded(self, old: str, now: str, kept: str, has_one_key: bool) -> None:
+        """A version of a LOCKED folder, a PRIVATE lease and a node's life outlast the change of programs. Until 0.2 all had the farm's key."""
+        os.mkdir(kept)
+        node_key, content = digits_of(b"a" * 64, 1), "b" * 64
+
+        def sealed(key: str, text: str) -> str:
+            return f"m {text} {hmac.new(key.encode(), text.encode(), hashlib.sha256).hexdigest()}"
+
+        lines = ("hello 1 1", "acquire 1 1 1 locked:a", f"commit 1 1 1 locked:a={content}", "acquire 1 1 2 private:p")
+        coordinator, node = ("coordinator", "--record", f"{kept}/record"), ("node", "--node", "1", "--nodes", "2", "--store", f"{kept}/store")
+        said = self.talk(old, *coordinator, given=[sealed("a" * 64 if has_one_key else node_key, line) for line in lines])
+        self.assertRegex(said, rf"(?s)committed 1 1 1 locked:a=1:{content}.* granted 1 1 2 2 plain private:p#1=0:")
+        said = self.talk(now, *coordinator, given=["line locked:a", "status", sealed(node_key, "acquire 1 1 3 locked:a")])
+        for wanted in (f": 1 1 {content}\n", ": lease 2 1 1 2 plain private:p#1\n", f"plain locked:a=1:{content} "):
+            self.assertIn(wanted, said)
+        self.assertGreater(int(re.findall(r"granted 1 1 3 ([0-9]+) ", said)[0]), 2)
+        lives = [int(self.talk(program, *node).rpartition("= life ")[2]) for program in (old, now)]
+        self.assertGreater(lives[1], lives[0])
 
 
 if __name__ == "__main__":

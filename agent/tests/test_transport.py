@@ -2,6 +2,7 @@
 from __future__ import annotations
 
 import contextlib
+import hmac
 import os
 import shutil
 import socket
@@ -16,7 +17,8 @@ from agent.folders import trees
 from agent.folders.index import make_whole
 from agent.store.chunks import chunk_names, chunk_path
 from agent.faults import ClientGone, FarmFault, Missing, UsageFault
-from agent.transport.hints import Hints, make_key
+from agent.transport.hints import from_nodes, to_nodes
+from agent.transport.keys import FarmKey, make_key, node_key, renew_key
 from agent.transport.needs import Needs, parts
 from agent.store.packing import packed
 from agent.store.redis import HOLD, RedisStore
@@ -381,13 +383,37 @@ class Sealed(support.RoomTest):
         key = make_key(self.path("farm/key"))
         self.assertEqual(make_key(key), key)
         self.assertEqual(os.stat(key).st_mode & 0o777, 0o600)
-        hints = Hints(key)
-        line = hints.seal("ended 5 1")
-        self.assertEqual(hints.open(line), ["ended", "5", "1"])
-        self.assertEqual(Hints(make_key(self.path("other/key"))).open(line), None)
-        for bad in (line.replace("5", "6", 1), line[:-1] + ("0" if line[-1] != "0" else "1"), "ended 5 1", line[5:], "", "hint x é"):
+        farm, other = FarmKey(key), FarmKey(make_key(self.path("other/key")))
+        hints = farm.of_node(1).hints()
+        line = hints.seal("here 1 5")
+        self.assertEqual((hints.open(line), farm.hints().open(line)), (["here", "1", "5"],) * 2)
+        self.assertEqual([farm.of_node(2).hints().open(line), other.of_node(1).hints().open(line), other.hints().open(line)], [None] * 3)
+        for bad in (line.replace("5", "6", 1), line[:-1] + ("0" if line[-1] != "0" else "1"), "here 1 5", line[5:], "", "hint x é", "hint here 9999 x"):
             self.assertIsNone(hints.open(bad), bad)
-        self.assertNotEqual(hints.name(), Hints(make_key(self.path("other/key"))).name())
+            self.assertIsNone(farm.hints().open(bad), bad)
+        self.assertNotEqual(farm.names, other.names)
+
+    def test_keys(self) -> None:
+        """A node's key is that of HMAC-SHA256 over its name. It speaks for no other node, and not as the farm; its file says whose it is."""
+        self.write("key", "k" * 32 + "\n")
+        farm = FarmKey(self.path("key"))
+        key = farm.of_node(7)
+        self.assertEqual(key.digits, hmac.new(b"k" * 32, b"key of node 7 in epoch 0", "sha256").hexdigest())
+        self.write("node.key", key.text())
+        self.assertEqual(node_key(self.path("node.key")), key)
+        with self.assertRaisesRegex(UsageFault, "is that of node 7: node 8 has its own"):
+            key.of_node(8)
+        forged = key.hints().seal("here 8 5")  # about another node
+        said = farm.hints().own.seal("coordinator x stands")
+        self.assertEqual((farm.hints().open(forged), key.hints().open(said), farm.hints().open(key.hints().seal("coordinator x stands"))), (None,) * 3)
+        self.assertEqual([from_nodes(line) for line in (to_nodes("lacks 2 aa"), "hint ended 5 1 -", "hint lacks -", said)], [["lacks", "2", "aa"], None, None, None])
+        renew_key(self.path("key"))
+        again = FarmKey(self.path("key"))
+        self.assertEqual((again.names.farm, again.names.generation == farm.names.generation), (farm.names.farm, False))
+        for text in ("", key.digits, key.text() + "\n", key.text().replace("node 7", "node 70000")):
+            self.write("node.key", text)
+            with self.assertRaises(UsageFault):
+                node_key(self.path("node.key"))
 
 
 if __name__ == "__main__":

@@ -10,13 +10,13 @@ import subprocess
 import sys
 import tempfile
 import unittest
-from typing import Callable
+from typing import Callable, Iterator
 from unittest import mock
 
 from agent.folders import claims, trees
 from agent.store.chunks import chunk_names, chunk_path
 from agent.faults import FarmFault
-from agent.transport.hints import make_key
+from agent.transport.keys import make_key
 from agent.folders.places import Places, Trash, check_apart, path_order, place_of
 from agent.folders.held import Held
 from agent.folders.listing import walk
@@ -291,11 +291,32 @@ class Trees(support.RoomTest):
         with self.store.making():
             digest = self.store.publish(make_whole(self.store, self.path("one")))
 
+        asked = list[int]()
+
         def ask() -> set[str]:
-            self.store.release(digest)  # it is answered just behind what the coordinator told
+            asked.append(0)
+            if asked[1:]:  # the first one only tells what to read before commits are held up
+                self.store.release(digest)  # it is answered just behind what the coordinator told
             return set()
 
-        self.assertEqual(self.store.forget(ask, -1), (0, 0))
+        self.assertEqual((self.store.forget(ask, -1), len(asked)), ((0, 0), 2))
+
+    def test_forget_turns(self) -> None:
+        """Between two turns of a long forgetting commits go on, and what they name stays."""
+        self.write("one/f", os.urandom(900_000).hex())
+        index, digest = support.kept(self.store, self.path("one"))
+        again = list[str]()
+
+        def walk(folder: str) -> Iterator[tuple[str, list[str], list[str]]]:
+            found = list(walked(folder))
+            again.append(self.store.publish(index))  # chunks that nothing named when that was looked at
+            yield from found
+
+        walked = os.walk
+        with mock.patch("os.walk", walk), mock.patch("agent.store.folder.FORGOTTEN_AT_ONCE", 1):
+            self.assertEqual(self.store.forget(set, -1), (1, 0))
+        self.assertEqual(again, [digest])
+        trees.extract(self.store, index, self.path("out"))
 
     def test_forget(self) -> None:
         self.write("one/f", "a" * 300_000)

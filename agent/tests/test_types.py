@@ -5,6 +5,7 @@ import glob
 import shutil
 import subprocess
 import sys
+import tempfile
 import unittest
 
 from agent.tests import support
@@ -26,7 +27,9 @@ class Types(unittest.TestCase):
         python = python_with("mypy")
         if python is None:
             self.skipTest(support.needs("mypy"))
-        words = [python, "-m", "mypy", "--strict", "--python-version", "3.11", "--cache-dir", "/dev/null"]
+        cache = tempfile.TemporaryDirectory()
+        self.addCleanup(cache.cleanup)
+        words = [python, "-m", "mypy", "--strict", "--python-version", "3.11", "--cache-dir", cache.name]
         # apart, since two scripts are called `run`
         for files in (["agent", "release", "farm"], *SCRIPTS):
             done = subprocess.run([*words, *files], cwd=support.TOP, capture_output=True, text=True)

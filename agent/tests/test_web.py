@@ -14,11 +14,12 @@ import time
 import unittest
 import urllib.error
 import urllib.request
-from typing import Any
+from typing import Any, Sequence
 
 from agent.faults import FarmFault
+from agent.history.events import Event, line_of
 from agent.service.carried import made
-from agent.service.operators import Status
+from agent.service.operators import Past, Status
 from agent.web import web
 
 from agent.tests import support
@@ -34,11 +35,28 @@ def told(nodes: int, leases: int, folder: str = "locked:c") -> dict[str, Any]:
         "now": now, "gone": [2], "retired": [], "tickets": 9, "lives": {str(n): 1_700_000_000 + n for n in range(1, nodes + 1)},
         "heard": {str(n): now - n for n in range(1, nodes + 1)},
         "leases": [{"ticket": t, "node": t % nodes + 1, "life": 1, "ask": t, "kind": "plain", "slots": [f"{folder}{t}"], "since": now - t} for t in range(1, leases + 1)],
-        "snapshots": [{"node": 2, "slot": "locked:c", "version": 4, "since": 1.0, "state": "merging"}],
-        "waiting": [{"kind": "acquire", "node": 1, "life": 1, "ask": 5, "folders": [folder], "left": True}],
+        "snapshots": [{"node": 2, "slot": "locked:c", "version": 4, "since": now - 2, "state": "merging"}],
+        "waiting": [{"kind": "acquire", "node": 1, "life": 1, "ask": 5, "folders": [folder], "left": True, "since": now - 40, "who": "nightly"}],
         "folders": [{"slot": f"{folder}{t}", "version": 3, "ticket": t, "digest": "0" * 64, "versions": [
             {"version": v, "ticket": v, "digest": "0" * 64, "size": 1234 ** v} for v in (3, 2, 1)]} for t in range(1, leases + 1)],
     }
+
+
+def events(folders: int, count: int, now: float) -> list[Event]:
+    """The past of some folders: each lease asks, waits, begins, and ends."""
+    ends, made = ("commit", "commit", "commit", "release", "fence", "withdraw", "lost", "commit"), list[Event]()
+    for turn in range(count // 4):
+        folder, at, held = f"locked:cache{turn % folders:02}", now - (count // 4 - turn) * 3.0, 20.0 + 17 * (turn % 7)
+        last, waited = ends[turn // folders % len(ends)], float(turn % 5) * 9
+        how = "withdraw" if last == "fence" else last
+        whole = Event("ask", at=at - waited, node=turn % 4 + 1, ask=turn, folders=(folder,))
+        made += [whole, whole._replace(kind="grant", at=at, ticket=turn + 1, waited=waited), whole._replace(kind="begin", at=at, ticket=turn + 1, who=f"ci-{turn}")]
+        made.append(whole._replace(
+            kind=how, at=at + held, ticket=turn + 1, who=f"ci-{turn}", waited=waited, held=held,
+            versions={folder: (turn // folders + 1, 40 + turn, 1_000_000 + 4000 * turn)} if how == "commit" else {},
+        ))
+        made += [made[-1]._replace(kind="fence", held=None, waited=None)] if last == "fence" else []
+    return [event._replace(number=number) for number, event in enumerate(made, 1)]
 
 
 def missing() -> Status:
@@ -56,14 +74,17 @@ def has_ipv6() -> bool:
 class Served(support.RoomTest):
     """A page whose farm is a value."""
 
-    def serve(self, status: Any, address: str = "127.0.0.1") -> int:
+    def serve(self, status: Any, address: str = "127.0.0.1", events: Sequence[Event] = ()) -> int:
         def read() -> Status:
             if isinstance(status, str):
                 raise FarmFault(status)
             value: Status = made(Status, status)
             return value
 
-        server = web.Server(address, 0, read)
+        def past(after: int) -> Past:
+            return Past(last=len(events), lines=tuple(map(line_of, events[after:])))
+
+        server = web.Server(address, 0, web.Sources(read, past))
         thread = threading.Thread(target=server.serve_forever, args=(0.05,))
         thread.start()
         self.addCleanup(thread.join)
@@ -88,7 +109,10 @@ class Answers(Served):
         self.assertNotIn(b"http", page.replace(b"http-equiv", b""))  # nothing of another server
         self.assertIn("default-src 'none'; script-src 'sha256-", policy)
         self.assertEqual(len(json.loads(self.get(port, "/status.json")[1])["leases"]), 2)
-        rows = [("/../agent/web.py", "GET", 404), ("/status.json?x", "GET", 404), ("/", "POST", 501), ("/status.json", "DELETE", 501)]
+        past = self.serve(told(2, 2), events=events(1, 8, 1e9))
+        answers = [json.loads(self.get(past, f"/history.json?after={after}")[1]) for after in (0, 6, 99)]
+        self.assertEqual([(answer["last"], len(answer["lines"])) for answer in answers], [(8, 8), (8, 2), (8, 0)])
+        rows = [("/../agent/web.py", "GET", 404), ("/status.json?x", "GET", 404), ("/history.json", "GET", 404), ("/history.json?after=-1", "GET", 404), ("/", "POST", 501), ("/status.json", "DELETE", 501)]
         for path, method, wanted in rows:
             self.assertEqual(self.get(port, path, method)[0], wanted, path)
         self.assertEqual(self.get(port, "/status.json", Host="evil.example")[0], 403)
@@ -109,7 +133,7 @@ class Answers(Served):
 
     def test_gone(self) -> None:
         """Who asks and is gone before the answer is nobody's fault."""
-        server = web.Server("127.0.0.1", 0, missing)
+        server = web.Server("127.0.0.1", 0, web.Sources(missing, lambda after: Past(0, ())))
         self.addCleanup(server.server_close)
         host = f"Host: 127.0.0.1:{server.server_port}\r\n\r\n".encode()
         for asked, said in ((b"GET / HTTP/1.1\r\n" + host, ""), (b"GET / HT", ""), (b"GET /status.json HTTP/1.1\r\n" + host, "KeyError: 'what'")):
@@ -156,12 +180,24 @@ class Addresses(support.FarmTest):
             self.assertIn("0-65535", self.asked("web", "--port", port, status=70))
 
 
+LOOP = "let sum = 0; for (let k = 0; k < 1e7; k++) sum += k % 7; window.kept = sum"
+
+
 @unittest.skipUnless(support.has("chromium"), support.needs("chromium"))
 class InBrowser(Served):
     def browser(self) -> Browser:
-        made = Browser(self.room)
+        made = Browser(self.room, *(1200, 1000) if os.environ.get("FARM_PICTURE") else ())
         self.addCleanup(made.close)
         return made
+
+    def took(self, browser: Browser, script: str) -> float:
+        """How many times as long a script takes as ten million turns of a loop, some 20 milliseconds where the machine has nothing else to do:
+        the best of nine."""
+        timed = "(() => {{ const begun = performance.now(); {}; return performance.now() - begun; }})()".format
+        took, turns = (min(browser.value(timed(each)) for _ in range(9)) for each in (script, LOOP))
+        if os.environ.get("FARM_TIMES"):
+            print(f"{script}: {took:.1f} ms, the loop {turns:.1f} ms")
+        return float(took / turns)
 
     def test_markup(self) -> None:
         browser = self.browser()
@@ -176,12 +212,54 @@ class InBrowser(Served):
         browser = self.browser()
         browser.open(f"http://127.0.0.1:{self.serve(told(200, 2000))}/")
         self.assertTrue(browser.wait("document.querySelectorAll('#leases tbody tr').length === 2000"))
-        draws = "(() => { const begun = performance.now(); draw(); document.body.offsetHeight; return performance.now() - begun; })()"
-        took = min(browser.value(draws) for _ in range(5))
-        self.assertLess(took, 2000)  # milliseconds: it draws every two seconds
+        self.assertLess(self.took(browser, "draw(); document.body.offsetHeight"), 100)  # it draws every two seconds
         browser.value("wanted.value = 'locked:c1999'; wanted.dispatchEvent(new Event('input'))")
         self.assertTrue(browser.wait("document.querySelectorAll('#leases tbody tr').length === 1"))
         self.assertIn("200", browser.value("String(Object.keys(told.lives).length)"))
+
+    def test_past(self) -> None:
+        """Fifty folders and ten thousand events: drawn at once, and zoomed by keys and by dragging."""
+        browser = self.browser()
+        browser.open(f"http://127.0.0.1:{self.serve(told(4, 3, 'locked:cache0'), events=events(50, 10_000, time.time()))}/")
+        self.assertTrue(browser.wait("rows.size >= 50"))
+        self.assertLess(self.took(browser, "line()"), 25)
+        whole = browser.value("drawn")
+        self.assertLess(whole, 2500)  # only the rows that are seen
+        browser.value("past.focus()")
+        widths = [browser.value("seen().to - seen().from")]
+        for key in ("+", "+", "ArrowLeft", "-"):
+            browser.key(key)
+            widths.append(browser.value("seen().to - seen().from"))
+        self.assertEqual([round(width / widths[0], 2) for width in widths], [1, 0.5, 0.25, 0.25, 0.5])
+        self.assertLess(browser.value("drawn"), whole)
+        browser.drag(*browser.value("(() => { const box = canvas.getBoundingClientRect(); return [box.left + 300, box.top + 60, box.left + 400]; })()"))
+        share = browser.value("100 / (past.clientWidth - NAMES)")
+        self.assertAlmostEqual(browser.value("seen().to - seen().from"), widths[-1] * share, delta=widths[-1] * 0.02)
+        browser.key("0")
+        self.assertAlmostEqual(browser.value("seen().to - seen().from"), widths[0], delta=30)
+        browser.value("wanted.value = 'cache07'; wanted.dispatchEvent(new Event('input'))")
+        self.assertEqual(browser.value("shown"), ["locked:cache07"])
+        found = browser.value("(() => { const span = rows.get('locked:cache07').spans.at(-1); look(span.from - 5, span.to + 5); return under(NAMES + 300, AXIS + 10); })()")
+        self.assertRegex(found, r"\Alocked:cache07\nnode [1-4], by ci-[0-9]+\n[a-z ]+[^\n]*, ticket [0-9]+\n20[^\n]*, for [0-9.]+ (s|min)")
+        browser.key("?")
+        if os.environ.get("FARM_PICTURE"):
+            browser.value("explain(); wanted.value = ''; look(told.now - 900, told.now); draw()")
+            browser.picture(os.environ["FARM_PICTURE"])
+            browser.key("?")
+        self.assertIn("after its lease had ended", browser.value("document.querySelector('dialog[open]').textContent"))
+
+    def test_strange_past(self) -> None:
+        """What is no event is skipped, markup stays text, and a history that began anew is taken anew."""
+        made = [Event("grant", number=1, at=1.0, node=1, ticket=1, folders=(MARKED,)), Event("commit", number=2, at=time.time(), node=1, ticket=1, folders=(MARKED,), who=MARKED, held=9.0)]
+        browser = self.browser()
+        browser.open(f"http://127.0.0.1:{self.serve(told(1, 0), events=made)}/")
+        self.assertTrue(browser.wait("rows.size === 1"))
+        browser.value("takePast({last: 9, lines: ['', '{', 'null', '[]', '{\"kind\":\"commit\"}', '{\"kind\":\"commit\",\"folders\":7}']}); line()")
+        self.assertEqual(browser.value("rows.size"), 1)
+        browser.value("tip.textContent = under(past.clientWidth - 2, AXIS + 10)")
+        self.assertEqual(browser.value("[document.title, document.images.length, document.scripts.length]"), ["farm", 0, 1])
+        browser.value("takePast({last: 1, lines: []}); line()")
+        self.assertEqual(browser.value("[rows.size, last]"), [0, 1])
 
     def test_lights(self) -> None:
         """Text and ground are far apart, by day and by night."""
@@ -216,14 +294,13 @@ class OfAFarm(support.FarmTest):
         self.wait_for(self.path("in"))
         waits = self.begin("run", "--node", "2", "--folder", "locked:c=v", "--", "true")
         self.assertTrue(browser.wait("document.querySelector('#leases').textContent.includes('locked:c') && document.querySelector('#waiting').textContent.includes('locked:c')"))
-        if os.environ.get("FARM_PICTURE"):
-            browser.picture(os.environ["FARM_PICTURE"])
         ticket = json.loads(self.asked("status", "--json"))["leases"][0]["ticket"]
         self.asked("withdraw", str(ticket))
         held.communicate(timeout=support.PATIENCE)
         waits.communicate(timeout=support.PATIENCE)
         self.assertTrue(browser.wait("document.querySelector('#leases').textContent.includes('nobody has')"))
-        self.assertRegex(browser.value("document.querySelector('#folders').textContent"), "locked:c2[0-9]+[0-9.]+ kB1: ")
+        self.assertTrue(browser.wait("rows.get('locked:c').spans.map(span => span.how).sort().join() === 'commit,commit,withdraw'"))
+        self.assertRegex(browser.value("document.querySelector('#folders').textContent"), "locked:c2[0-9]+[0-9.]+ kB[0-9.]+ s[0-9.]+ s1: ")
         self.end()
         self.ups = []
         self.assertTrue(browser.wait("document.querySelector('#said.lost') !== null"))

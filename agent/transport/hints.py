@@ -2,75 +2,30 @@
 nobody waits for an ask, which tickets and versions are known.
 
 Owes the filters that nothing of it reaches them. A hint changes only what people are shown and how early a lost execution stops. Hints
-are sealed, under a key that is derived from the farm's, so that nothing an agent seals opens as a message of a filter.
+between a node and the coordinator are sealed, under a key that is made of that node's, so that nothing an agent seals opens as a message of
+a filter, and no node is believed about another. Nodes tell each other of contents without a seal: whoever says it, it does no harm.
 """
 from __future__ import annotations
 
-import contextlib
 import hashlib
 import hmac
-import os
-import re
-import secrets
-
-from agent.faults import named
-from agent.store.lasting import put_file
+from typing import Callable
 
 FRONT = "hint "
-LATER = re.compile(rb"[0-9a-f]{64}\n([0-9a-f]{16}) later generation")  # the key's file of a later generation
-
-
-def make_key(path: str) -> str:
-    """The file of the farm's key. It is made where there is none."""
-    if not os.path.exists(path):
-        os.makedirs(os.path.dirname(path), exist_ok=True)
-        fresh = f"{path}.{secrets.token_hex(4)}"
-        try:
-            with named(path), open(os.open(fresh, os.O_WRONLY | os.O_CREAT | os.O_EXCL, 0o600), "w") as file:
-                file.write(secrets.token_hex(32) + "\n")
-                file.flush()
-                os.fsync(file.fileno())
-            with contextlib.suppress(FileExistsError):
-                os.link(fresh, path)  # the first of two that make it at once
-        finally:
-            with contextlib.suppress(FileNotFoundError):
-                os.unlink(fresh)
-        folder = os.open(os.path.dirname(path), os.O_RDONLY | os.O_DIRECTORY)
-        os.fsync(folder)  # a farm whose key is lost can't go on
-        os.close(folder)
-    return path
-
-
-def renew_key(path: str) -> None:
-    """Makes the farm one of a new generation: nothing that was sealed before opens any more, and what the farm keeps has its old name. The
-    old key stays beside it."""
-    hints = Hints(path)
-    with open(path, "rb") as file:
-        put_file(f"{path}.{hints.generation()}", file.read())
-    put_file(path, f"{secrets.token_hex(32)}\n{hints.name()} later generation\n".encode())
+OPEN = ("lacks", "offered")  # hints without a seal, from anybody
+OF_COORDINATORS = ("coordinator", "iscoordinator")  # who has the farm's own key says these
+NODES_MOST = 1024
 
 
 class Hints:
-    """Seals and opens hints."""
+    """Seals and opens the hints of one node and the coordinator."""
 
-    def __init__(self, key_path: str) -> None:
-        with open(key_path, "rb") as file:
-            key = file.read().removesuffix(b"\n")
+    def __init__(self, key: bytes) -> None:
         self.key = hmac.new(key, b"hints of agents", hashlib.sha256).digest()
-        later = LATER.fullmatch(key)
-        self.farm = later[1].decode() if later else ""  # of a later generation: the first one's name
 
     def name(self) -> str:
-        """A name for what the farm keeps in places that farms share: no two first keys have one."""
-        return self.farm or self.generation()
-
-    def generation(self) -> str:
-        """A name of the farm's generation: of its key."""
+        """A name of the key, which tells nothing of it."""
         return hmac.new(self.key, b"name", hashlib.sha256).hexdigest()[:16]
-
-    def lines_name(self) -> str:
-        """A name for where the generation's lines go."""
-        return f"{self.farm}-{self.generation()}" if self.farm else self.generation()
 
     def _mac(self, text: str) -> str:
         return hmac.new(self.key, text.encode(), hashlib.sha256).hexdigest()
@@ -84,3 +39,44 @@ class Hints:
         if not line.startswith(FRONT) or not hmac.compare_digest(mac.encode(), self._mac(text).encode()):
             return None
         return text.split(" ")
+
+
+class FarmHints:
+    """The coordinator's: it seals for each node under that node's key, and believes a node about itself alone: its hints have its number behind
+    their name."""
+
+    def __init__(self, own: Hints, of_node: Callable[[int], Hints]) -> None:
+        self.own, self.of_node = own, of_node
+        self.known: dict[int, Hints] = {}
+
+    def node(self, node: int) -> Hints:
+        if node not in self.known:
+            self.known[node] = self.of_node(node)
+        return self.known[node]
+
+    def seal(self, node: int, text: str) -> str:
+        return self.node(node).seal(text)
+
+    def seal_to_coordinators(self, text: str) -> str:
+        return self.own.seal(text)
+
+    def open(self, line: str) -> list[str] | None:
+        words = line.split(" ", 3)
+        if words[0] != FRONT.strip() or len(words) < 4:
+            return None
+        if words[1] in OF_COORDINATORS:
+            return self.own.open(line)
+        if not (words[2].isascii() and words[2].isdecimal() and len(words[2]) <= 4 and 1 <= int(words[2]) <= NODES_MOST):
+            return None
+        return self.node(int(words[2])).open(line)
+
+
+def to_nodes(text: str) -> str:
+    """A hint from a node to another one."""
+    return f"{FRONT}{text} -"
+
+
+def from_nodes(line: str) -> list[str] | None:
+    """The words of such a hint; none where it isn't one."""
+    words = line.split(" ")
+    return words[1:-1] if len(words) > 3 and words[0] == FRONT.strip() and words[1] in OPEN and words[-1] == "-" else None

@@ -9,6 +9,7 @@ import queue
 import threading
 import time
 from collections import deque
+from typing import Callable
 
 from agent.transport.redis_wire import Redis
 
@@ -28,6 +29,7 @@ class RedisTransport:
         self.farm = farm
         self.places: dict[str, bytes] = {}
         self.here: dict[str, deque[str]] = {}  # lines that came together
+        self.reached: Callable[[str], None] = lambda why: None  # hears why the server can't be reached, or that it can be
         self.outbox: queue.Queue[tuple[str, str]] = queue.Queue(LENGTH)
         threading.Thread(target=self._send_all, daemon=True).start()
 
@@ -49,15 +51,17 @@ class RedisTransport:
                 lines.append(self.outbox.get())
             try:
                 self.server.calls([("XADD", self._stream(to), "MAXLEN", "~", LENGTH, "*", "line", line) for to, line in lines])
-            except Exception:
-                pass  # they are lost
+                self.reached("")
+            except Exception as fault:
+                self.reached(str(fault) or type(fault).__name__)  # they are lost
 
     def receive(self, address: str, timeout: float) -> str | None:
         here = self.here.setdefault(address, deque())
         if not here and timeout > 0:
             try:
                 here.extend(self._read(address, timeout))
-            except Exception:  # also where what answers is no server of Redis
+            except Exception as fault:  # also where what answers is no server of Redis
+                self.reached(str(fault) or type(fault).__name__)
                 self.places.pop(address, None)
                 time.sleep(min(timeout, 0.5))
         return here.popleft() if here else None

@@ -35,6 +35,17 @@ class RedisAway(RedisFault):
     """The server can't be reached."""
 
 
+def signed_in(url: str, password: str) -> str:
+    """A server's address with this password, where it names a user without one."""
+    try:
+        parts = urllib.parse.urlsplit(url)
+    except ValueError:  # it is refused where it is used
+        return url
+    if not parts.username or parts.password:
+        return url
+    return parts._replace(netloc=f"{parts.username}:{password}@{parts.netloc.rpartition('@')[2]}").geturl()
+
+
 class Link:
     """One connection. After a fault on the line it is of no use."""
 

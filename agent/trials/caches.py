@@ -234,6 +234,15 @@ def fill_maven(folder: str) -> None:
         write(f"{folder}/p{n}", text_of(n))
 
 
+def sccache_job(packages: list[int]) -> str:
+    """The layout of sccache's folder by a script: a file an object below two letters of its key, written beside it and renamed."""
+    parts = "".join(
+        f"k=$(echo p{n} | sha256sum | cut -c1-64); d=$C/$(echo $k | cut -c1)/$(echo $k | cut -c2); f=$d/$k\n"
+        f"if [ -e $f ]; then touch $f; else mkdir -p $d; t=$(mktemp $C/.sccachetmpXXXXXX); curl -s $U/p{n} > $t; mv $t $f; fi; cat $f >> out\n" for n in packages
+    )
+    return parts + "sha256sum < out"
+
+
 KINDS = {
     "ccache": Kind(("ccache", "gcc"), lambda folder: None, ccache_job),
     "go-build": Kind(("go",), lambda folder: None, go_job),
@@ -244,6 +253,7 @@ KINDS = {
     "cargo-home": Kind(("cargo",), fill_cargo, cargo_job),
     "cargo-registry": Kind(("cargo",), fill_cargo, cargo_registry_job),
     "maven-layout": Kind(("curl",), fill_maven, maven_job),
+    "sccache-layout": Kind(("curl",), fill_maven, sccache_job),
     "sqlite": Kind((), lambda folder: None, sqlite_job),
 }
 

@@ -1,6 +1,6 @@
 #!/usr/bin/env python3
 """Runs commands and builds on a farm of three nodes while its processes are killed, its messages lost, repeated, delayed, damaged and
-forged, what a broker keeps overwritten, chunks in homes zeroed, flipped and swapped, gc killed, old records put back, and leases withdrawn;
+forged, what a broker or bucket keeps overwritten, chunks in homes zeroed, flipped and swapped, gc killed, old records put back, clocks set, and leases withdrawn;
 then looks at every line, every version, and all that was told.
 
 The last line is `N right, M wrong`, and the status is 1 where something was wrong, or where a farm that nobody disturbs any more didn't
@@ -23,6 +23,7 @@ import time
 from collections import Counter
 from dataclasses import dataclass
 from pathlib import Path
+from typing import Callable
 
 sys.dont_write_bytecode = True
 sys.path.insert(0, str(Path(__file__).resolve().parents[2]))
@@ -32,17 +33,21 @@ from agent.runs.executions import can_have_namespaces  # noqa: E402
 from agent.faults import FarmFault  # noqa: E402
 from agent.store.redis import RedisStore  # noqa: E402
 from agent.store.folder import FolderStore, Store  # noqa: E402
-from agent.trials.farms import PYTHON_FARM, Attacker, Farm, Machines, OverRedis, Pipes, kill  # noqa: E402
+from agent.trials.farms import PYTHON_FARM, Attacker, Farm, Machines, OverRedis, OverS3, Pipes, kill  # noqa: E402
 from agent.trials.verdict import HALF, Lines, Source, Told, Verdict, told_of  # noqa: E402
 
 NODES, EACH = 3, 2  # commands at once on each node
-KINDS: dict[str, type[Farm]] = {"pipes": Pipes, "redis": OverRedis, "machines": Machines}
+KINDS: dict[str, type[Farm]] = {"pipes": Pipes, "redis": OverRedis, "machines": Machines, "s3": OverS3}
+COMMON, SPELL = 0.3, 2.0  # the share of commands at one path for all nodes, each in its node's network, and the seconds for which it is that path
 CALM = 240.0  # seconds in which an undisturbed farm has to do its last commands, on a machine that others may have
 CHOICES = [["locked:a"], ["locked:a"], ["locked:b"], ["locked:a", "locked:b"], ["locked:a", "ro=locked:b"], ["private:p"], ["shared:s"]]
 SPOILT = 99  # the status of a command that found a folder in a state that no command leaves
 
 # What is done to the farm, in an order that each round draws anew.
-DECK = ("coordinator", "node", "node", "withdraw", "withdraw", "withdraw", "client", "agent", "redis", "pause", "cut", "cut", "chunk", "chunk", "gc", "gc", "record")
+DECK = ("coordinator", "node", "node", "withdraw", "withdraw", "withdraw", "client", "agent", "redis", "pause", "cut", "cut", "chunk", "chunk", "gc", "gc", "record", "clock", "store", "object", "object")
+
+DAY = 86_400
+JUMPS = (0, 600, -600, 3 * DAY, -3 * DAY, 400 * DAY, -400 * DAY)  # seconds that clocks are off the machine's
 
 # What a command does in each folder that it may write.
 WORK = """
@@ -72,6 +77,7 @@ class Chaos:
     def __init__(self, given: Given, room: str) -> None:
         self.given, self.room = given, room
         self.dice = random.Random(given.seed)
+        self.deck: tuple[str, ...] = DECK
         self.counts: Counter[str] = Counter()
         self.told: list[Told] = []
         self.clients: dict[str, subprocess.Popen[str]] = {}
@@ -79,7 +85,8 @@ class Chaos:
         self.stopping = threading.Event()
         self.farm: Farm = KINDS[given.over](f"{room}/farm", NODES, given.seed, given.wrong)
         self.attacker: Attacker | None = None
-        self.spoilt: set[str] = set()  # chunks that were spoilt in some node's home
+        self.spoilt: dict[int, set[str]] = {node: set() for node in range(1, NODES + 1)}  # chunks that were spoilt in each node's home
+        self.spoilt_objects: set[str] = set()  # of the bucket
         self.copied = 0  # commits that were told when the record was copied last
         self.faults: list[str] = []  # of agents that don't start again
         self.late: list[str] = []  # what a farm that nobody disturbs didn't do in time
@@ -92,6 +99,8 @@ class Chaos:
 
     def run(self, name: str, node: int, folders: list[str], token: str, nap: float, fails: bool, patience: float | None = None) -> Told:
         paths = {folder: f"{self.room}/work/{name}/{folder.removeprefix('ro=').replace(':', '-')}" for folder in folders}
+        if patience is None and len(folders) == 1 and not folders[0].startswith("shared:") and self.dice.random() < COMMON:
+            paths[folders[0]] = f"{self.room}/work/common{int(time.monotonic() / SPELL)}"
         writable = [folder for folder in folders if not folder.startswith("ro=")]
         parts = []
         for folder in writable:
@@ -103,6 +112,10 @@ class Chaos:
         words += ["--on-lost", "stop"] if self.dice.random() < 0.3 else []
         command = "set -e\n" + "\n".join(parts) + ("\nexit 3" if fails else "")
         return self._client(name, node, "run", [*words, "--", "sh", "-c", command], token, writable, patience)
+
+    def env(self, node: int) -> dict[str, str]:
+        """The environment of a node's commands."""
+        return dict(os.environ)
 
     def build(self, name: str, node: int, token: str, nap: float, fails: bool) -> Told:
         context = f"{self.room}/work/{name}/context"
@@ -122,7 +135,7 @@ class Chaos:
         process = subprocess.Popen(
             [*PYTHON_FARM, verb, "--home", self.farm.home(node), "--node", str(node), *words], stdin=subprocess.DEVNULL,
             stdout=subprocess.DEVNULL if verb == "run" else subprocess.PIPE, stderr=subprocess.STDOUT if verb == "build" else subprocess.PIPE,
-            text=True, cwd=self.room,
+            text=True, cwd=self.room, env=self.env(node),
         )
         with self.lock:
             self.clients[name] = process
@@ -163,7 +176,7 @@ class Chaos:
         deck: list[str] = []
         while not self.stopping.wait(self.dice.uniform(0.2, 1.4)):
             if not deck:
-                deck = list(DECK)
+                deck = list(self.deck)
                 self.dice.shuffle(deck)
             what = deck.pop()
             try:
@@ -201,9 +214,18 @@ class Chaos:
             self.gc(dice.choice([None, *range(1, NODES + 1)]), dice.choice([None, dice.random()]))
         elif what == "record":
             self.put_back()
+        elif what == "clock" and farm.clocks:
+            farm.set_clocks(dice.choice(JUMPS[:3] if isinstance(farm, OverS3) else JUMPS))  # S3 refuses what was signed at another quarter of an hour
+            self.count("clocks set")
         elif what == "redis" and isinstance(farm, OverRedis):
             farm.kill_redis(dice.random() * 2)
             self.count("Redis killed")
+        elif what == "store" and isinstance(farm, OverS3):
+            farm.trouble(how := dice.choice(["503", "slow 0.5", "slow 5"]), dice.uniform(1, 6))
+            self.count(f"times that the bucket answered {how}")
+        elif what == "object" and isinstance(farm, OverS3):
+            self.spoilt_objects.add(farm.spoil(dice) or "")
+            self.count("objects spoilt or lost")
         elif what == "cut" and isinstance(farm, Machines):
             before = self.commits()
             farm.cut(dice.randrange(2, NODES + 1), dice.uniform(1, 9))
@@ -226,9 +248,9 @@ class Chaos:
             others = file.read()
         at = self.dice.randrange(max(1, len(data)))
         how, bad = self.dice.choice([
-            ("zeroed", bytes(len(data))), ("flipped", data[:at] + bytes([data[at] ^ 1]) + data[at + 1 :]), ("swapped", others), ("emptied", b""),
+            ("zeroed", bytes(len(data))), ("flipped", data[:at] + bytes([(data or b"\0")[at] ^ 1]) + data[at + 1 :]), ("swapped", others), ("emptied", b""),
         ])
-        self.spoilt.add(f":chunk:{name.partition('/')[2].removesuffix('.cacnk')}")
+        self.spoilt[node].add(f":chunk:{name.partition('/')[2].removesuffix('.cacnk')}")
         with open(f"{path}.bad", "wb") as file:
             file.write(bad)
         os.rename(f"{path}.bad", path)
@@ -356,10 +378,14 @@ class Chaos:
         spoilt = self.attacker.spoilt if self.attacker else set()
         if not isinstance(self.farm, OverRedis):
             return [Copy("the farm's store", FolderStore(f"{self.farm.home(None)}/contents"), True, "", spoilt)]
-        fresh = RedisStore(self.farm.url, f"{self.room}/fresh", self.farm.farm)
-        made: list[Source] = [Copy("Redis", fresh, True, self.farm.farm, spoilt)]
+        made: list[Source]
+        if isinstance(self.farm, OverS3):
+            made = [Copy("the bucket", self.farm.contents, True, "", self.spoilt_objects)]
+        else:
+            fresh = RedisStore(self.farm.url, f"{self.room}/fresh", self.farm.farm)
+            made = [Copy("Redis", fresh, True, self.farm.farm, spoilt)]
         for node in range(1, NODES + 1):
-            made.append(Copy(f"node {node}", FolderStore(f"{self.farm.home(node)}/contents"), False, "", self.spoilt))
+            made.append(Copy(f"node {node}", FolderStore(f"{self.farm.home(node)}/contents"), False, "", self.spoilt[node]))
         return made
 
 
@@ -394,8 +420,13 @@ def main() -> int:
     given = words()
     if given.wrong == "unsealed":
         os.environ["PRACTICE_UNSEALED"] = "1"
+    return judged(given, Chaos)
+
+
+def judged(given: Given, make: Callable[[Given, str], Chaos]) -> int:
+    """Makes the trial, and says what came of it. Its status."""
     room = os.path.realpath(tempfile.mkdtemp(prefix="farm-chaos-"))
-    chaos = Chaos(given, room)
+    chaos = make(given, room)
     try:
         verdict = chaos.trial()
     except FarmFault as fault:

@@ -4,7 +4,7 @@
 A Dockerfile that counts is built alternately and at once; a step outlives its killed daemon, and writes on; a build is CACHED; a failed one is
 mended; two have one SHARED folder. `--keep-ids` has the agent keep the ids of leases that didn't end well, which has to be found.
 
-usage: agent/trials/docker.py [--keep-ids]
+usage: agent/trials/docker.py [--keep-ids] [--containerd]
 """
 from __future__ import annotations
 
@@ -61,20 +61,25 @@ def expect(holds: object, what: str) -> None:
 class Daemon:
     """A dockerd of the trial's own."""
 
-    def __init__(self, home: str) -> None:
-        self.home, self.host = home, f"unix://{home}/docker.sock"
+    def __init__(self, home: str, by_containerd: bool) -> None:
+        self.home, self.host, self.by_containerd = home, f"unix://{home}/docker.sock", by_containerd
         self.process: subprocess.Popen[bytes] | None = None
 
     def start(self) -> None:
         os.makedirs(self.home, exist_ok=True)
         words = ["--data-root", f"{self.home}/data", "--exec-root", f"{self.home}/exec", "--host", self.host, "--pidfile", f"{self.home}/pid"]
-        words += ["--iptables=false", "--ip6tables=false", "--bridge=none", "--storage-driver", "overlay2"]
+        words += ["--iptables=false", "--ip6tables=false", "--bridge=none", "--storage-driver", "overlayfs" if self.by_containerd else "overlay2"]
+        with open(f"{self.home}/daemon.json", "w") as file:
+            json.dump({"features": {"containerd-snapshotter": True}} if self.by_containerd else {}, file)
+        words += ["--config-file", file.name]
         with open(f"{self.home}/log", "ab") as log:
             self.process = subprocess.Popen(["dockerd", *words], stdin=subprocess.DEVNULL, stdout=log, stderr=log, start_new_session=True)
         end = time.monotonic() + 60.0
         while self.call("version").returncode:
             expect(time.monotonic() < end and self.process.poll() is None, f"dockerd doesn't start: {Path(self.home, 'log').read_text()[-600:]}")
             time.sleep(0.2)
+        told = self.call("info", "--format", "{{.DriverStatus}}").stdout
+        expect(("containerd.snapshotter" in told) is self.by_containerd, f"the daemon's images lie elsewhere: {told}")
 
     def call(self, *words: str) -> subprocess.CompletedProcess[str]:
         env = os.environ | {"DOCKER_HOST": self.host, "DOCKER_BUILDKIT": "1"}
@@ -117,9 +122,9 @@ class Daemon:
 
 
 class Trial:
-    def __init__(self, room: str, keeps_ids: bool) -> None:
+    def __init__(self, room: str, keeps_ids: bool, by_containerd: bool) -> None:
         self.room, self.home, self.context = room, f"{room}/home", f"{room}/context"
-        self.daemons = [Daemon(f"{room}/d{number}") for number in (1, 2)]
+        self.daemons = [Daemon(f"{room}/d{number}", by_containerd) for number in (1, 2)]
         self.farm_words = [sys.executable, "-c", PLANTED.format(top=TOP, keeps_ids=keeps_ids)]
 
     @contextlib.contextmanager
@@ -215,6 +220,9 @@ class Trial:
         said = build.communicate(timeout=PATIENCE)[0]
         expect("BuildKit dropped the cache mount of locked:prune" in said, said[-1500:])
         expect(build.returncode == 70 and self.versions("locked:prune") == 0, f"{build.returncode}, of a mount that was pruned")
+        lines = self.got("locked:lines")["f"]
+        self.build(1, COUNT, "--build-arg", "LINE=pruned")  # no build had that mount meanwhile
+        expect(self.got("locked:lines")["f"] == f"{lines}pruned\n", "a folder whose mount was pruned isn't filled anew")
         other = self.begin(2, COUNT, host=self.daemons[0].host)
         said = other.communicate(timeout=PATIENCE)[0]
         expect(other.returncode == 70 and "another node of this machine builds by the daemon" in said, said[-1500:])
@@ -283,10 +291,12 @@ def found(tried: Callable[[], str]) -> str:
 def main() -> int:
     words = argparse.ArgumentParser()
     words.add_argument("--keep-ids", action="store_true", help="plants the fault that ids are kept")
-    keeps_ids = words.parse_args().keep_ids
+    words.add_argument("--containerd", action="store_true", help="the daemons' images lie in containerd's storage, as Docker 24 and newer can have it")
+    args = words.parse_args()
+    keeps_ids: bool = args.keep_ids
     os.environ["PATH"] = f"{os.path.dirname(cli())}:{os.environ['PATH']}"
     room = os.path.realpath(tempfile.mkdtemp(prefix="farm-docker-"))
-    trial = Trial(room, keeps_ids)
+    trial = Trial(room, keeps_ids, args.containerd)
     try:
         with trial.standing():
             with trial.farm(trial.farm_words):

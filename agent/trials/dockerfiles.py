@@ -116,7 +116,7 @@ def main() -> int:
     asked = words.parse_args()
     os.environ["PATH"] = f"{os.path.dirname(cli())}:{os.environ['PATH']}"
     room = tempfile.mkdtemp(prefix="farm-docker-")
-    daemon, writer, counts = Daemon(f"{room}/d"), Writer(asked.seed), Counter[str]()
+    daemon, writer, counts = Daemon(f"{room}/d", False), Writer(asked.seed), Counter[str]()
     try:
         os.makedirs(context := f"{room}/context")
         shutil.copy(shutil.which("busybox") or "", f"{context}/busybox")

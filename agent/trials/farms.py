@@ -1,12 +1,14 @@
 """Farms for trials: agents as processes of this machine, over pipes or over a Redis of their own, which are killed and started again."""
 from __future__ import annotations
 
+import contextlib
 import json
 import os
 import random
 import shutil
 import signal
 import socket
+import struct
 import subprocess
 import sys
 import threading
@@ -15,11 +17,14 @@ from typing import Any, Callable
 
 from agent.runs import launch
 from agent.faults import FarmFault
-from agent.transport.hints import Hints, make_key
+from agent.transport.keys import NODE_NAME, FarmKey, make_key
 from agent.transport.redis_wire import Redis, RedisFault
+from agent.store.lasting import put_file
 from agent.store.opened import farm_name
+from agent.store.s3 import S3Store
 from agent.tests.support import free_port
 from agent.tools import TOP, need
+from agent.trials import s3
 
 DISTURBED = f"{TOP}/agent/trials/disturbed.py"
 PYTHON_FARM = [sys.executable, "-IS", f"{TOP}/farm"]
@@ -38,6 +43,8 @@ class Farm:
         self.starts = 0
         self.lock = threading.RLock()
         os.makedirs(room, mode=0o700, exist_ok=True)
+        self.clocks = self._made_clocks()
+        self.set_clocks(0)
 
     # What a kind of farm says.
 
@@ -58,6 +65,20 @@ class Farm:
 
     # What is the same for all.
 
+    def _made_clocks(self) -> dict[str, str]:
+        """What has a process see a time of day that is set; nothing where there is no C compiler."""
+        compiler = shutil.which(os.environ.get("CC") or "cc")
+        if not compiler:
+            return {}
+        library = f"{self.room}/clocks.so"
+        subprocess.run([compiler, "-O2", "-shared", "-fPIC", "-o", library, f"{TOP}/agent/trials/clocks.c"], check=True)
+        return {"LD_PRELOAD": library, "CLOCKS_BY": f"{self.room}/clock"}
+
+    def set_clocks(self, seconds: int) -> None:
+        """The time of day of all agents and filters jumps to this much from the machine's."""
+        with open(f"{self.room}/clock", "r+b" if os.path.exists(f"{self.room}/clock") else "wb") as file:
+            file.write(struct.pack("=q", seconds))
+
     def begin(self) -> None:
         for name in self.names():
             self.start(name)
@@ -71,7 +92,7 @@ class Farm:
             trial = {"seed": self.seed * 1000 + self.starts, "history": self.history, "wrong": self.wrong}
             log = open(f"{self.room}/{name}.log", "a")
             process = subprocess.Popen(
-                self.command(name), env=os.environ | {"TRIAL": json.dumps(trial)}, stdin=subprocess.DEVNULL, stdout=subprocess.PIPE,
+                self.command(name), env=os.environ | self.clocks | {"TRIAL": json.dumps(trial)}, stdin=subprocess.DEVNULL, stdout=subprocess.PIPE,
                 stderr=log, text=True, start_new_session=True,
             )
             log.close()
@@ -223,11 +244,11 @@ class OverRedis(Farm):
         return [*role, "--home", self.home(node), "--nodes", str(self.nodes), "--broker", self.url]
 
     def begin(self) -> None:
-        key = make_key(f"{self.home(None)}/key")
+        key = FarmKey(make_key(f"{self.home(None)}/key"))
         for node in range(1, self.nodes + 1):
             os.makedirs(self.home(node), mode=0o700, exist_ok=True)
-            shutil.copy2(key, f"{self.home(node)}/key")
-        self.farm = farm_name(Hints(key))
+            put_file(f"{self.home(node)}/{NODE_NAME}", key.of_node(node).text().encode())
+        self.farm = farm_name(key.names)
         self.start_redis()
         super().begin()
 
@@ -353,6 +374,43 @@ class Machines(OverRedis):
         super().end()
         for node in range(1, self.nodes + 1):
             ip("netns", "delete", self.space(node), must=False)
+
+
+class OverS3(OverRedis):
+    """As over Redis, with contents in an object store of this machine's own."""
+
+    def begin(self) -> None:
+        self.ending = contextlib.ExitStack()
+        self.place = self.ending.enter_context(s3.server(f"{self.room}/swift"))
+        os.environ.update(self.place.env)
+        super().begin()
+        self.contents = S3Store(self.place.url, f"{self.room}/fresh", self.farm)
+
+    def words(self, name: str) -> list[str]:
+        return [*super().words(name), "--contents", self.place.url]
+
+    def trouble(self, what: str, seconds: float) -> None:
+        """For a while the store does that to each request."""
+        with self.place.faulty(what):
+            time.sleep(seconds)
+
+    def spoil(self, dice: random.Random) -> str | None:
+        """Overwrites an object with another's bytes, or deletes it. What of a content it is; none where there is nothing."""
+        bucket = self.contents.bucket
+        keys = [entry.key for front in ("chunk/", "index/") for entry in bucket.listed(front)[1]]
+        if len(keys) < 2:
+            return None
+        key, other = dice.sample(keys, 2)
+        bad = dice.choice([b"", b"x" * 40, bucket.get(other, 1 << 24) or b"", None])
+        if bad is None:
+            bucket.delete([key])
+        else:
+            bucket.put(key, bad)
+        return f":{key.replace('/', ':', 1)}"
+
+    def end(self) -> None:
+        super().end()
+        self.ending.close()
 
 
 def ip(*words: str, must: bool = True) -> None:

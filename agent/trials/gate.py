@@ -249,8 +249,25 @@ def need_namespaces() -> None:
         raise Skipped("merged folders want root and namespaces")
 
 
+def taken_over(room: str) -> str:
+    """A node was taken over: who took it tries everything beside two honest nodes, and is put out."""
+    need_tools("casync", "redis-server")
+    return tried("takenover", "--seconds", "15")
+
+
+def one_key(room: str) -> str:
+    """Who took a node over has the farm's own key, as if nodes had none of their own."""
+    need_tools("casync", "redis-server")
+    try:
+        said = tried("takenover", "--seconds", "15", "--wrong", "one-key")
+    except Wrong as fault:
+        return "found, " + [line for line in str(fault).splitlines() if line.startswith("wrong: ")][0]
+    raise Failed(said)
+
+
 TRIALS: list[Callable[[str], str]] = [
     starts, kills, main_job, suites, count, docker_builds, kept_ids, over_pipes, over_redis, early_agent, stale_agent, merged_folders, snapshot_agent,
+    taken_over, one_key,
 ]
 
 

@@ -22,7 +22,7 @@ sys.path.insert(0, str(Path(__file__).resolve().parents[2]))
 
 from agent.filters.lines import Answer, Filter, FilterGone  # noqa: E402
 from agent.tools import TOP, farm_program  # noqa: E402
-from agent.trials.talks import KEY, KINDS, Conversation, Filling, Step, WithFullLog, Wrong, expect  # noqa: E402
+from agent.trials.talks import KEY, KINDS, Conversation, Filling, Step, WithFullLog, Wrong, expect, node_key  # noqa: E402
 
 WAYS = ("before", "half", "cut", "names", "full", "fuller", "later1", "later2", "later3", "later4", "dying8", "again1", "again2", "again3", "again4")  # as killed.c has them
 TRIES = 4  # of a line that was refused for want of room
@@ -34,7 +34,7 @@ class Trial:
     def __init__(self, kind: type[Conversation], way: str, number: int, library: str) -> None:
         self.room = os.path.realpath(tempfile.mkdtemp(prefix="farm-kills-"))
         self.way = way
-        for name, data in (("key", KEY.encode()), ("count", bytes(8)), ("count2", bytes(8))):
+        for name, data in (("key", KEY.encode()), ("node.key", node_key(1).encode()), ("count", bytes(8)), ("count2", bytes(8))):
             with open(f"{self.room}/{name}", "wb") as file:
                 file.write(data)
         front = [f"LD_PRELOAD={library}", f"KILL_LEFT={self.room}/left"]

@@ -2,7 +2,7 @@
 """Measures the agent on this machine, in one run: what `farm run` costs beside the command, a folder of a gigabyte, one of two in many
 files, and a source package built on three nodes with ccache in a leased folder, beside other places for it.
 
-usage: agent/trials/measure.py [start] [folder] [many] [modes] [burst] [rounds SOURCE.tar.gz] [package SOURCE.tar.gz [MAKE WORDS..]]
+usage: agent/trials/measure.py [start] [folder] [many] [modes] [ten] [burst] [large] [rounds SOURCE.tar.gz] [package SOURCE.tar.gz [MAKE WORDS..]]
 """
 from __future__ import annotations
 
@@ -227,10 +227,22 @@ def modes(room: str) -> None:
         for mode in ("locked", "shared", "private", "merged"):
             row(f"4 commands of 5 s on 4 nodes, {mode}", f"{at_once([command(mode, node, str(node)) for node in range(1, 5)]):.1f} s")
         row("4 commands of 5 s on one node, at one path, merged", f"{at_once([command('merged', 1, 'same') for _ in range(4)]):.1f} s")
-        small = [farm.run(node, f"merged:small={room}/small{node}", "sh", "-c", f"echo x > {room}/small{node}/$$") for node in range(1, 5)]
-        before = len(farm.held())
-        took = at_once([["sh", "-c", f"for k in 1 2 3 4 5 6; do {shlex.join(words)} 2>/dev/null || exit 1; done"] for words in small])
-        row("24 small commands on 4 nodes, merged: a second", f"{24 / took:.1f}", f"leases {spread(farm.held()[before:])}")
+        small(room, farm)
+
+
+def small(room: str, farm: Apart) -> None:
+    """Six small commands on each node, one after the other, all nodes at once."""
+    words = [farm.run(node, f"merged:small={room}/small{node}", "sh", "-c", f"echo x > {room}/small{node}/$$") for node in range(1, farm.nodes + 1)]
+    before = len(farm.held())
+    took = at_once([["sh", "-c", f"for k in 1 2 3 4 5 6; do {shlex.join(each)} 2>/dev/null || exit 1; done"] for each in words])
+    count = 6 * farm.nodes
+    row(f"{count} small commands on {farm.nodes} nodes, merged: a second", f"{count / took:.1f}", f"leases {spread(farm.held()[before:])}")
+
+
+def ten(room: str) -> None:
+    """Ten nodes at once."""
+    with apart(room, 10) as farm:
+        small(room, farm)
 
 
 WRITE = """import os, random, sys
@@ -243,7 +255,7 @@ for k in range(50_000) if number == 50_000 else dice.sample(range(50_000), numbe
 
 
 def burst(room: str, size: int = 8_000) -> None:
-    """50,000 files, of which four nodes change 100 each at once."""
+    """50,000 files of this many bytes, of which four nodes change 100 each at once."""
     with apart(room, 4) as farm:
         def command(node: int, number: int, seed: int) -> list[str]:
             path = f"{room}/burst{node}"
@@ -331,7 +343,10 @@ def main() -> int:
     source = words[words.index("package") + 1 :] if "package" in words else []
     tar = os.path.abspath(words.pop(words.index("rounds") + 1)) if "rounds" in words else ""
     print(f"load {os.getloadavg()[0]:.1f}, {os.cpu_count()} processors", flush=True)
-    jobs: dict[str, Callable[[str], None]] = {"start": start, "folder": folder, "many": many, "modes": modes, "burst": burst, "rounds": lambda room: rounds(room, tar), "package": lambda room: package(room, os.path.abspath(source[0]), source[1:])}
+    jobs: dict[str, Callable[[str], None]] = {
+        "start": start, "folder": folder, "many": many, "modes": modes, "ten": ten, "burst": burst, "large": lambda room: burst(room, 40_000),
+        "rounds": lambda room: rounds(room, tar), "package": lambda room: package(room, os.path.abspath(source[0]), source[1:]),
+    }
     for name, job in jobs.items():
         if name in words[: len(words) - len(source)]:
             with tempfile.TemporaryDirectory(prefix="farm-") as room:

@@ -51,6 +51,10 @@ sleep {nap}
 FLIPS = {0: "rm -rf {path}/flip; echo f > {path}/flip", 2: "rm -rf {path}/flip; mkdir {path}/flip; echo {token} > {path}/flip/{token}"}
 
 
+# Not a version that a command waits for.
+TOLD = re.compile(r"(?m)^farm: (?:merged .* into |committed \d+ )?locked:c (?:has it all in )?version (\d+)")
+
+
 @dataclass(frozen=True, kw_only=True)
 class Done:
     """A command that is over."""
@@ -116,7 +120,7 @@ class Trial:
         with self.lock:
             self.clients[token] = process
         said = process.communicate()[1]
-        found = re.search(r"locked:c (?:has it all in )?version (\d+)", said)
+        found = TOLD.search(said)
         done = Done(
             token=token, dish=turn % 5, removed=removed, fails=fails, status=process.returncode, said=said[-400:],
             version=int(found[1]) if found else None, is_exact="has it all" not in said,

@@ -11,6 +11,7 @@ from __future__ import annotations
 import argparse
 import base64
 import contextlib
+import functools
 import hmac
 import json
 import os
@@ -31,6 +32,7 @@ sys.path.insert(0, str(Path(__file__).resolve().parents[2]))
 
 from agent.tools import farm_program  # noqa: E402
 from agent.tests.support import free_port  # noqa: E402
+from agent.transport.keys import digits_of  # noqa: E402
 
 CLIENTS = (1, 8, 64)
 KEY = b"5" * 64
@@ -77,8 +79,13 @@ class Meter:
         return Measured(self.count / wall, ours / wall, theirs / wall)
 
 
-def sealed(text: bytes) -> bytes:
-    return b"m %s %s\n" % (text, hmac.digest(KEY, text, "sha256").hex().encode())
+@functools.cache
+def node_key(node: int) -> bytes:
+    return digits_of(KEY, node).encode()
+
+
+def sealed(node: int, text: bytes) -> bytes:
+    return b"m %s %s\n" % (text, hmac.digest(node_key(node), text, "sha256").hex().encode())
 
 
 def farm(room: str, clients: int, seconds: float) -> Measured:
@@ -99,10 +106,10 @@ def farm(room: str, clients: int, seconds: float) -> Measured:
         while meter.goes_on(done):
             for client, ticket in ready:
                 if ticket:
-                    lines.append(sealed(b"commit %d 1 %b %b" % (client + 1, ticket, news % client)))
+                    lines.append(sealed(client + 1, b"commit %d 1 %b %b" % (client + 1, ticket, news % client)))
                 else:
                     asks[client] += 1
-                    lines.append(sealed(b"acquire %d 1 %d locked:c%d" % (client + 1, asks[client], client)))
+                    lines.append(sealed(client + 1, b"acquire %d 1 %d locked:c%d" % (client + 1, asks[client], client)))
                 said.append(client)
             os.write(inlet, b"".join(lines))
             *answers, rest = (rest + os.read(outlet, 1 << 20)).split(b"\n")

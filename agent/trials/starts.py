@@ -20,7 +20,7 @@ sys.path.insert(0, str(Path(__file__).resolve().parents[2]))
 
 from agent.filters.lines import Answer, Filter, FilterGone  # noqa: E402
 from agent.tools import farm_program  # noqa: E402
-from agent.trials.talks import KEY, Wrong, digest_of, expect, from_outside  # noqa: E402
+from agent.trials.talks import KEY, Wrong, digest_of, expect, from_outside, node_key  # noqa: E402
 
 NOBODY = ["setpriv", "--reuid=65534", "--regid=65534", "--clear-groups"]  # to root no folder is read-only
 CONTENT = b"what was kept\n"
@@ -36,6 +36,7 @@ class Room:
         self.others: list[Filter] = []
         shutil.copy(farm_program(), f"{self.path}/farmctl")  # where nobody may call it
         self.write("key", KEY.encode())
+        self.write("node.key", node_key(1).encode())
         self.write("content", CONTENT)
         coordinator, node = self.start("coordinator"), self.start("node")
         life = node.greeting.note.split(" ")[1]
@@ -58,7 +59,9 @@ class Room:
             file.write(data)
 
     def words(self, kind: str, **given: str) -> list[str]:
-        files = {"key": f"{self.path}/key"} | ({"record": f"{self.path}/record"} if kind == "coordinator" else {"node": "1", "nodes": "2", "store": f"{self.path}/store"})
+        files = {"key": f"{self.path}/key", "record": f"{self.path}/record"}
+        if kind == "node":
+            files = {"key": f"{self.path}/node.key", "node": "1", "nodes": "2", "store": f"{self.path}/store"}
         return [f"{self.path}/farmctl", kind, *(word for name, value in (files | given).items() for word in (f"--{name}", value))]
 
     def start(self, kind: str, front: list[str] | None = None, **given: str) -> Filter:
@@ -188,10 +191,35 @@ def other_key(room: Room) -> None:
     room.write("other", b"6" * 64)
     for kind in ("coordinator", "node"):
         other = room.start(kind, key=f"{room.path}/other")
-        for line in (from_outside("hello", 1, 2**40), from_outside("fetch", 1, 2, DIGEST)):
-            answer = other.call(line)
-            expect((answer.sends, answer.note) == ([], "dropped BadMac"), f"the {kind} says {answer}")
+        answer = other.call(from_outside("hello", 1, 2**40))
+        expect((answer.sends, answer.note) == ([], "dropped BadMac"), f"the {kind} says {answer}")
         other.close()
+    room.judge()
+
+
+def too_large(room: Room) -> None:
+    """A content has at most 16 MiB."""
+    node = room.start("node")
+    for size, said in ((2**24 + 1, "refused TooLarge"), (2**24, "nothing")):
+        with open(f"{room.path}/large", "wb") as file:
+            file.truncate(size)
+        note = node.call(f"blob {room.path}/large").note
+        expect(note == said, f"of a file of {size} bytes it says {note}")
+    node.close()
+    room.judge()
+
+
+def not_removed(room: Room) -> None:
+    """A content that can't be removed isn't said to be forgotten."""
+    node, path = room.start("node"), f"{room.path}/store/contents/{DIGEST}"
+    os.unlink(path)
+    os.mkdir(path)
+    for _ in range(2):  # from then on it does nothing
+        note = node.call(f"forget {DIGEST}").note
+        expect(note == "refused StoreFault", f"it says {note}")
+    node.close()
+    os.rmdir(path)
+    room.write(f"store/contents/{DIGEST}", CONTENT)
     room.judge()
 
 
@@ -211,6 +239,8 @@ ROWS: dict[str, Callable[[Room], None]] = {
     "an empty store": empty_store,
     "a key of another farm": other_key,
     "a short key": refused("coordinator", 1, "refused KeyTooShort ", lambda room: room.write("key", b"5" * 31 + b"\n")),
+    "a file of more than 16 MiB": too_large,
+    "a content that can't be removed": not_removed,
     "no key": refused("node", 4, "fault FileFault ", key="ROOM/none"),
 }
 

@@ -9,6 +9,7 @@ import shutil
 from typing import Callable, Protocol
 
 from agent.filters.lines import Answer
+from agent.transport.keys import digits_of
 from agent.words import EMPTY
 
 KEY = "5" * 64
@@ -24,8 +25,16 @@ def expect(holds: bool, what: str) -> None:
         raise Wrong(what)
 
 
+def node_key(node: int) -> str:
+    return digits_of(KEY.encode(), node)
+
+
 def sealed(text: str) -> str:
-    return f"{text} {hmac.new(KEY.encode(), text.encode(), hashlib.sha256).hexdigest()}"
+    """A line under the key of the node that it names; contents go under none."""
+    words = text.split(" ", 2)
+    if words[0] in ("fetch", "blob"):
+        return f"{text} -"
+    return f"{text} {hmac.new(node_key(int(words[1])).encode(), text.encode(), hashlib.sha256).hexdigest()}"
 
 
 def from_outside(*words: object) -> str:
@@ -213,7 +222,7 @@ class WithNode:
 
     def __init__(self, room: str) -> None:
         self.room = room
-        self.words = ["node", "--node", "1", "--nodes", "2", "--store", f"{room}/store", "--key", f"{room}/key"]
+        self.words = ["node", "--node", "1", "--nodes", "2", "--store", f"{room}/store", "--key", f"{room}/node.key"]
         self.life = self.ticket = 0
         self.kept: dict[str, bytes] = {}  # contents that were confirmed
         self.base, self.blob = b"base " * 3000, b"blob " * 20

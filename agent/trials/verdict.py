@@ -121,19 +121,25 @@ class Verdict:
         tokens = {told.token: told for told in self.told}
         for slot, versions in self.lines.items():
             before: list[str] = []
+            unread = 0  # versions since the one before that can't be read
             for number, ticket, digest in versions:
                 lineage = self._taken(f"{slot} version {number}", digest, sources, f"{room}/out")
                 if lineage is None:
+                    unread += 1
                     continue
                 if slot.startswith("shared:"):
                     self._judge_shared(f"{slot} version {number}", before, lineage)
                 else:
-                    self._judge_next(f"{slot} version {number}", ticket, before, lineage, tokens)
-                before = lineage
+                    known = before + lineage[len(before) : len(before) + unread]
+                    self._judge_next(f"{slot} version {number}", ticket, known, lineage, tokens)
+                before, unread = lineage, 0
 
     def _taken(self, name: str, digest: str, sources: list[Source], out: str) -> list[str] | None:
-        """The lineage of a version, from each source that has it: they have to be equal."""
+        """The lineage of a version, from each source that has it: they have to be equal. There is none where the trial itself spoilt
+        the store's copy and a node's."""
         found: dict[str, tuple[str, list[str]]] = {}
+        spoilt: list[Source] = []
+        lacking: dict[str, FarmFault] = {}
         for source in sources:
             index = source.store.index(digest)
             shutil.rmtree(out, ignore_errors=True)
@@ -142,14 +148,21 @@ class Verdict:
                     raise FarmFault("its index isn't there")
                 trees.extract(source.store, index, out)
             except FarmFault as fault:
-                if source.must_have and not source.is_spoilt(digest, index):
+                if source.is_spoilt(digest, index):
+                    spoilt.append(source)
+                    continue
+                lacking[source.name] = fault
+                if source.must_have:
                     self.blame(f"{name} can't be taken from {source.name}: {fault}")
                 continue
             found[source.name] = (tree_digest(out), lineage_of(out))
             self._judge_tree(name, out)
             self.counts[f"copies in {source.name}"] += 1
         if not found:
-            self.blame(f"{name} is nowhere")
+            if any(not source.must_have for source in spoilt):
+                self.counts["versions of which the trial spoilt each copy"] += 1
+            else:
+                self.blame(f"{name} is nowhere: spoilt in {[source.name for source in spoilt]}, and {lacking}")
             return None
         self.counts["versions taken out"] += 1
         if len({tree for tree, _ in found.values()}) > 1:

@@ -1,6 +1,6 @@
 """A page with the farm's status, to be read in a browser.
 
-Owes the filters that nothing can be asked of the farm through it: it answers three requests, and all only read.
+Owes the filters that nothing can be asked of the farm through it: it answers four requests, and all only read.
 """
 from __future__ import annotations
 
@@ -16,13 +16,16 @@ import socket
 import socketserver
 import sys
 import threading
-from typing import Any, Callable
+from typing import Any, Callable, NamedTuple
 
+from agent.counts import Sample
 from agent.faults import FarmFault, show
 from agent.service.carried import plain
-from agent.service.operators import Status
+from agent.service.client import NoFarm
+from agent.service.operators import Past, Status
 from agent.web import metrics
 
+PAST = re.compile(r"/history\.json\?after=([0-9]{1,15})", re.ASCII)
 PAGE = os.path.join(os.path.dirname(os.path.abspath(__file__)), "page.html")
 
 
@@ -44,11 +47,19 @@ def is_loopback(address: str) -> bool:
     return (getattr(found, "ipv4_mapped", None) or found).is_loopback
 
 
+class Sources(NamedTuple):
+    """What the page asks."""
+
+    read: Callable[[], Status]
+    past: Callable[[int], Past]  # the events after a number
+    counted: Callable[[], tuple[Sample, ...]] = tuple  # by this machine's agents
+
+
 class Server(http.server.ThreadingHTTPServer):
     daemon_threads = True
 
-    def __init__(self, address: str, port: int, read: Callable[[], Status]) -> None:
-        self.read = read
+    def __init__(self, address: str, port: int, sources: Sources) -> None:
+        self.read, self.past, self.counted = sources
         with open(PAGE, encoding="utf-8") as file:
             self.page = file.read()
         self.policy = policy_of(self.page)
@@ -88,15 +99,31 @@ class Answer(http.server.BaseHTTPRequestHandler):
         elif self.path == "/":
             self._answer(200, "text/html; charset=utf-8", self.server.page.encode())
         elif self.path == "/status.json":
-            self._tell("application/json", lambda told: json.dumps(plain(told)))
+            self._answer_with("application/json", lambda: json.dumps(plain(self.server.read())))
         elif self.path == "/metrics":
-            self._tell(metrics.KIND, metrics.text)
+            self._answer_with(metrics.KIND, self._metrics)
+        elif found := PAST.fullmatch(self.path):
+            self._tell_past(int(found[1]))
         else:
-            self._answer(404, "text/plain", b"there is /, /status.json and /metrics")
+            self._answer(404, "text/plain", b"there is /, /status.json, /history.json?after=NUMBER and /metrics")
 
-    def _tell(self, kind: str, spelled: Callable[[Status], str]) -> None:
+    def _metrics(self) -> str:
+        """The farm's, and what this machine's agents counted. Where a machine has nodes alone only these."""
+        counted = self.server.counted()
         try:
-            self._answer(200, kind, spelled(self.server.read()).encode())
+            return metrics.of_farm(self.server.read()) + metrics.of_counts(counted)
+        except NoFarm:
+            if not counted:
+                raise
+            return metrics.of_counts(counted)
+
+    def _tell_past(self, after: int) -> None:
+        """The events after a number, each as a text, since what a file held may be none."""
+        self._answer_with("application/json", lambda: json.dumps(plain(self.server.past(after))))
+
+    def _answer_with(self, kind: str, text: Callable[[], str]) -> None:
+        try:
+            self._answer(200, kind, text().encode())
         except FarmFault as fault:
             self._answer(503, "text/plain; charset=utf-8", str(fault).encode())
 
@@ -114,10 +141,10 @@ class Answer(http.server.BaseHTTPRequestHandler):
         pass
 
 
-def serve(address: str, port: int, read: Callable[[], Status]) -> int:
+def serve(address: str, port: int, sources: Sources) -> int:
     """Serves until it is told to end."""
     try:
-        server = Server(address, port, read)
+        server = Server(address, port, sources)
     except (OSError, OverflowError, ValueError) as fault:
         raise FarmFault(f"no page at {address!r}, port {port}: {getattr(fault, 'strerror', '') or fault}") from None
     for number in (signal.SIGINT, signal.SIGTERM, signal.SIGHUP):
