@@ -13,6 +13,7 @@ use Rattle.protocol.specs.Processes.{ProcessesAreTheFarm, ProcessesStaySafe, Wit
 use Rattle.protocol.specs.Processes as one
 use Rattle.takeover.specs.TakeOver.{Store, Held, Request, Member, Stopped, Idle, Waits, Cluster, readable, started, taken_over, becomes, outcome, goes_on, stored, takes, Happens, Starts, Takes_over, Asks, Takes, Hears, Drops, Stops, Node_does, Comes_to, Stays, And_then, first_cluster, IsOneOf, SeveralAreOne, seen, SeveralStaySafe, WithdrawnStaysOutOfAll, OneIsSeveral, SeveralAreTheFarm, CanDo, AnyCanTakeOver, KeepsLeases, Comes_keeping, Stays_kept, And_kept, RunsOn, Stays_up, Works_on, Node_goes_on, started_processes, TakeOversAreNoRestarts}
 use Rattle.protocol.proofs.Base.{put_same, put_all, in_left, in_right, some_is, none_some, in_append}
+use Rattle.protocol.proofs.Following.{part_refl}
 
 -- ---- lists and runs
 
@@ -27,10 +28,6 @@ part_within (Leaves x xs ys p) m i = inr (part_within p m i)
 
 all_within : (xs ys zs : List Message) → Within xs zs → Within ys zs → Within (xs ++ ys) zs
 all_within xs ys zs f g m i = elim (in_append m xs ys i) [ inl j ↦ f m j | inr j ↦ g m j ]
-
-pub part_all : {A : Type 0} (xs : List A) → HasPart xs xs
-part_all [] = Ends_part
-part_all (x ∷ xs) = Keeps x xs xs (part_all xs)
 
 runs_on : (sha : List ℕ → Digest) (k : Limits) (size : ℕ) (p q r : Processes) → Runs sha k size p q → Runs sha k size q r → Runs sha k size p r
 runs_on sha k size p q r one (Rests q') = one
@@ -128,7 +125,7 @@ module _ (sha : List ℕ → Digest) (k : Limits) (size : ℕ) where
       let by : Saved → Batch = λ d. batch k r.calls (begin_batch r.held.ledger d) in
       let b : Batch = batch k r.calls (begin_batch r.held.ledger p.coordinator.disk) in
       subst (λ (d : Saved). Runs sha k size p (record p { coordinator = running_after (by d); written = p.written ++ (by d).sends })) disk
-      (Goes_on p p (record p { coordinator = running_after b; written = p.written ++ b.sends }) (Rests p) (Coordinator_does b.sends (running_after b) (Works r.held.ledger r.calls b.sends memory may (part_all b.sends))))
+      (Goes_on p p (record p { coordinator = running_after b; written = p.written ++ b.sends }) (Rests p) (Coordinator_does b.sends (running_after b) (Works r.held.ledger r.calls b.sends memory may (part_refl b.sends))))
 
   -- it is killed and starts
   abbrev restarted : Processes → Processes
@@ -417,7 +414,7 @@ withdrawn_stays_out_of_all withdrawn_stays_out sha k farm size c comes r i early
     let same : by (early ++ Withdraw t ∷ late) q.coordinator.disk ≡ outcome k r = ap (by (early ++ Withdraw t ∷ late)) ready.disk ∙ ap (λ cs. by cs r.held.saved) (sym calls) in
     let accepted : withdrawn k t (begin_work (by early q.coordinator.disk).ledger) ≡ Ok w = subst (λ (d : Saved). withdrawn k t (begin_work (by early d).ledger) ≡ Ok w) (sym ready.disk) ok in
     withdrawn_stays_out sha k farm size q last.after to_q r.held.ledger early late t w (by (early ++ Withdraw t ∷ late) q.coordinator.disk).sends ready.memory
-    (subst (AllMayCome size q.written) calls may) accepted (part_all (by (early ++ Withdraw t ∷ late) q.coordinator.disk).sends)
+    (subst (AllMayCome size q.written) calls may) accepted (part_refl (by (early ++ Withdraw t ∷ late) q.coordinator.disk).sends)
     (subst (λ (b : Batch). Runs sha k size (record q { coordinator = running_after b; written = q.written ++ b.sends }) last.after) (sym same) last.runs)
     s v (subst (λ (d : Saved). In v (d.line s)) (sym last.matches.is.disk) j) at
 
@@ -530,7 +527,7 @@ can_do sha k size c who r starts now may =
     let comes2 : Comes_to k sha size c c2 = And_then c1 c2 (And_then c c1 Stays starts) (Asks who r.held r.calls r.whole (put_same who (Idle r.held) c.members) may) in
     record {
       later = c4;
-      comes = And_then c3 c4 (And_then c2 c3 comes2 (Takes r (inl refl) now)) (Hears who r (outcome k r).sends (put_same who (Waits r) c1.members) (inl refl) (part_all (outcome k r).sends));
+      comes = And_then c3 c4 (And_then c2 c3 comes2 (Takes r (inl refl) now)) (Hears who r (outcome k r).sends (put_same who (Waits r) c1.members) (inl refl) (part_refl (outcome k r).sends));
       goes_on = put_same who (Idle (goes_on k r)) c3.members;
       saved = refl;
       written = refl;

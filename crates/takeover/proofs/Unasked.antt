@@ -16,7 +16,7 @@ use Rattle.protocol.specs.Lawful.{IsNumber}
 use Rattle.protocol.specs.Processes.{Handle, MayCome, AllMayCome, Batch, batch, begin_batch, NodeCall, Receive, Ask_lease, Begin, Finish, MayReach, node_decided, Acts}
 use Rattle.takeover.specs.TakeOver.{Store, Held, Request, Member, Idle, Waits, Cluster, started, outcome, goes_on, takes, Happens, Starts, Asks, Takes, Hears, Node_does, first_cluster, HappensUnasked, By_the_rules, Answers, Comes_unasked, Stays_so, And_so, FencedIsCommitted}
 use Rattle.takeover.specs.TakeOver as several
-use Rattle.takeover.proofs.TakingOver.{part_all}
+use Rattle.protocol.proofs.Following.{part_refl}
 
 -- one digest of all contents
 abbrev sha : List ℕ → Digest
@@ -85,7 +85,7 @@ number : IsNumber 1 n
 number = (omega arith, omega arith)
 
 node_does : (c : Cluster) (call : NodeCall) (w : NodeWork) → MayReach c.written n call → node_decided sha limits here (c.nodes 1) call ≡ Ok w → Happens limits sha 1 c (node_did w c)
-node_does c call w may ok = Node_does n w.sends w.node number (Acts 1 call w w.sends may ok (part_all w.sends))
+node_does c call w may ok = Node_does n w.sends w.node number (Acts 1 call w w.sends may ok (part_refl w.sends))
 
 -- ---- the run
 
@@ -216,7 +216,7 @@ came_5 =
     let k2 = rule c1 c2 k1 (Starts 0 c1.store (inl refl)) in
     let k3 = rule c2 c3 k2 (Asks 0 (started c1.store) (Handle ask ∷ []) false refl (hears_only c2.written ask ask_written)) in
     let k4 = rule c3 c4 k3 (Takes first (inl refl) refl) in
-    rule c4 c5 k4 (Hears 0 first (outcome limits first).sends refl (inl refl) (part_all (outcome limits first).sends))
+    rule c4 c5 k4 (Hears 0 first (outcome limits first).sends refl (inl refl) (part_refl (outcome limits first).sends))
 
 came_9 : Came c9
 came_9 =
@@ -226,7 +226,7 @@ came_9 =
     rule c8 c9 k8 (Starts 1 c8.store (inl refl))
 
 came_10 : Came c10
-came_10 = And_so c9 c10 came_9 (Answers 1 (started c8.store) (Handle commit ∷ []) fencing.sends refl (hears_only c9.written commit commit_written) refl same_ledger same_record (part_all fencing.sends))
+came_10 = And_so c9 c10 came_9 (Answers 1 (started c8.store) (Handle commit ∷ []) fencing.sends refl (hears_only c9.written commit commit_written) refl same_ledger same_record (part_refl fencing.sends))
 
 commit_heard : In (Said commit) c10.written
 unfolding handled decision gives newer_life retried tried stays lowest fetches
