@@ -23,6 +23,8 @@ from typing import NamedTuple
 PLACE = os.path.abspath("crates/farmctl/out")
 # The worked schedules stand in this table, a line each, with `; ` for a line's end.
 WORKED = "printed/worked.cases"
+# The row of two nodes, which is run so often with threads that rest at random too, the refused one the longest.
+SHAKEN, ROUNDS = ("run --nodes 2 df-cache-modes.llb df-cache-modes.llb", 0), 4
 # Each command on files of `examples`, and the status of its undisturbed run. It is one of farmctl, unless it names farmd.
 ROWS = [
     ("replay locked.schedule", 0),
@@ -43,7 +45,7 @@ ROWS = [
     ("record live.record", 0),
     ("record --explain damaged-log.record", 1),
     ("run --nodes 1 --record kept df-cache-modes.llb", 0),
-    ("run --nodes 2 df-cache-modes.llb df-cache-modes.llb", 0),
+    SHAKEN,
     ("run --nodes 1 --strict failing.llb put-remove.llb", 1),
     ("farmd node --node 3 --nodes 2 --store nowhere --key key", 2),
     ("farmd coordinator --record nowhere --key nothing", 4),
@@ -117,7 +119,9 @@ def is_sound(row: str, status: int, preload: dict[str, str], folder: str = "exam
     words.insert(0, os.path.abspath(f"crates/{name}/out/{name}"))
     whole, count = allocations(words, preload)
     ends, wrong = collections.Counter[str](), list[str]()
-    with concurrent.futures.ThreadPoolExecutor(os.cpu_count()) as pool:
+    # Threads that rest leave a processor to others.
+    at_once = (os.cpu_count() or 1) * (10 if "SHAKE" in preload else 1)
+    with concurrent.futures.ThreadPoolExecutor(at_once) as pool:
         runs = pool.map(lambda number: answer(words, {**preload, "REFUSE": str(number)}), range(1, count + 1))
         for number, said in enumerate(runs, 1):
             end = end_of(said, whole, words)
@@ -125,7 +129,7 @@ def is_sound(row: str, status: int, preload: dict[str, str], folder: str = "exam
             if end == "otherwise":
                 wrong.append(f"  allocation {number}: {said}"[:600])
     print(
-        f"{row}: status {whole.status}, {count} allocations, {ends['refused']} runs refused, {ends['same']} as before,"
+        f"{row}{', shaken' if 'SHAKE' in preload else ''}: status {whole.status}, {count} allocations, {ends['refused']} runs refused, {ends['same']} as before,"
         f" {ends['no thread']} without a thread, {len(wrong)} otherwise",
         flush=True,
     )
@@ -164,6 +168,7 @@ def main() -> int:
         subprocess.run([compiler, "-O2", "-shared", "-fPIC", "-o", library, "refused-memory/refuse.c", "-ldl"], check=True)
         preload = {**os.environ, "LD_PRELOAD": library}
         sound = [is_sound(row, status, preload) for row, status in ROWS]
+        sound += [is_sound(*SHAKEN, {**preload, "SHAKE": "1"}) for _ in range(ROUNDS)]
         rows = worked(room)
         sound += [is_sound(row, status, preload, room) for row, status in [*rows, merge(room)]]
     return 0 if all(sound) and rows else 1

@@ -1,5 +1,5 @@
 //! What lies under the lock of the board.
-ghost use Rattle.std.specs.Prelude.{◌≡◌, IfOk, IfSome};
+ghost use Rattle.std.specs.Prelude.{◌≡◌, IfErr, IfOk, IfSome};
 ghost use Rattle.protocol.specs.Names.{tenure_wants};
 
 use events::{EventNote, EventRefusal, NodeNote, NodeRefusal};
@@ -16,6 +16,17 @@ use tenures::{Ends, Tenures};
 pub(crate) struct LockedBoard {
     pub(crate) board: Board,
     pub(crate) tenures: Tenures,
+}
+
+/// The execution, and a copy of its wants. Where memory runs out for that, it is abandoned.
+fn with_wants(alloc: Global, running: Running) -> Result<(Running, Wants), FarmFault> {
+    match running.wants().copy(alloc) {
+        Ok(wants) => Ok((running, wants)),
+        Err(_) => {
+            abandon_running(running);
+            Err(FarmFault::Memory)
+        }
+    }
 }
 
 impl LockedBoard {
@@ -109,17 +120,39 @@ impl LockedBoard {
         }
     }
 
-    /// Ends an execution that leaves nothing.
-    pub(crate) fn give_up(&mut self, alloc: Global, running: Running) -> Result<(), FarmFault> {
-        self.tenures
-            .put_down(running.node(), running.wants().as_slice());
+    /// Ends an execution that leaves nothing. It uses its SHARED folders until the board has taken its end: so no tenure ends
+    /// that an execution of its node still uses.
+    pub(crate) fn give_up(&mut self, alloc: Global, running: Running) -> Result<(), FarmFault>
+        ensures { IfErr result (self.new.tenures ≡ self.old.tenures) }
+    {
+        let node = running.node();
+        let (running, wants) = with_wants(alloc, running)?;
         match self.board.abort(alloc, running) {
-            Ok(_) => Ok(()),
+            Ok(_) => {
+                self.tenures.put_down(node, wants.as_slice());
+                Ok(())
+            }
             Err((running, refusal)) => {
                 abandon_running(running);
                 Err(board_fault(refusal))
             }
         }
+    }
+
+    /// Ends an execution with what it leaves. It uses its SHARED folders until the board has taken its end.
+    pub(crate) fn finish_use(
+        &mut self,
+        alloc: Global,
+        running: Running,
+        lefts: Vec<Left>,
+    ) -> Result<Finished, FarmFault>
+        ensures { IfErr result (self.new.tenures ≡ self.old.tenures) }
+    {
+        let node = running.node();
+        let (running, wants) = with_wants(alloc, running)?;
+        let finished = self.finish(alloc, running, lefts)?;
+        self.tenures.put_down(node, wants.as_slice());
+        Ok(finished)
     }
 
     /// Ends an execution, or a tenure, with what it leaves.
@@ -128,7 +161,9 @@ impl LockedBoard {
         alloc: Global,
         running: Running,
         lefts: Vec<Left>,
-    ) -> Result<Finished, FarmFault> {
+    ) -> Result<Finished, FarmFault>
+        ensures { self.new.tenures ≡ self.old.tenures }
+    {
         match self.board.finish(alloc, running, lefts) {
             Ok(finished) => Ok(finished),
             Err((running, refusal)) => {

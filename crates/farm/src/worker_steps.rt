@@ -169,10 +169,7 @@ impl<R: Wait> BoardClient<'_, '_, R> {
     ) -> Result<Finished, FarmFault> {
         let mut locked = self.board.lock(self.rt);
         self.signals.count_step();
-        locked
-            .tenures
-            .put_down(self.node, running.wants().as_slice());
-        locked.finish(self.alloc, running, lefts)
+        locked.finish_use(self.alloc, running, lefts)
     }
 
     /// The tenure of a folder is not to be had now.
