@@ -8,7 +8,7 @@ ghost use Rattle.saverecord.specs.Texts.{whole_alone, with_text};
 
 use super::disk::Disk;
 use super::host_device::HostDevice;
-use super::record_files::{RecordFiles, put_record};
+use super::record_files::RecordFiles;
 use saverecord::{Keeper, KeeperRefusal, Log, SaveFault};
 use std::alloc::{AllocError, Global};
 use std::io::{self, ErrorKind};
@@ -69,13 +69,6 @@ impl<'a, R: Files> FileKeeper<'a, R> {
         let device = HostDevice::new(files, alloc, path)?;
         let files = RecordFiles::open(alloc, Disk::new(device))?;
         Ok(FileKeeper::of(files))
-    }
-
-    /// Does what `put_record` says with the files of this path. After an error the old record stands there with its log, or this one
-    /// does: entries that may be left in the log are none of its, unless it has the old record's name.
-    pub fn put(files: &'a R, alloc: Global, path: &str, bytes: &[u8]) -> io::Result<()> {
-        let device = HostDevice::new(files, alloc, path)?;
-        put_record(&mut Disk::new(device), bytes)
     }
 
     /// Tries whether a record can be put in the file of this path, and changes nothing that stands there.
