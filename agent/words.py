@@ -33,6 +33,11 @@ def is_folder(text: str) -> bool:
     return FOLDER.fullmatch(text) is not None
 
 
+def lined(folder: str) -> str:
+    """The folder whose line has the versions: of a merged one it is the locked one."""
+    return "locked:" + folder.removeprefix("merged:") if folder.startswith("merged:") else folder
+
+
 def short_name(text: str, kind: str = "farm") -> str:
     """A plain file name for any text: no id becomes a path."""
     import hashlib  # commands that only ask an agent do without

@@ -25,7 +25,7 @@ from agent.history.kept import History
 from agent.history.seen import Seen
 from agent.transport.local import COORDINATOR, address_of, node_address
 from agent.service.operators import FolderStatus, Lease, Status, Version, Waiting
-from agent.words import DIGEST, EMPTY, is_folder
+from agent.words import DIGEST, EMPTY, is_folder, lined
 
 NUDGE_MOST = 15.0
 AT_ONCE = 64  # lines that are carried together
@@ -324,6 +324,7 @@ class CoordinatorAgent:
 
     def slots_of(self, folder: str) -> list[str]:
         """The slots of a folder that have versions; a slot's own text names that one."""
+        folder = lined(folder)
         if not is_folder(folder.partition("#")[0]):
             raise UsageFault(f"{folder!r} is no folder")
         found = [each.slot for each in self.status().folders]

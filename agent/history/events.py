@@ -9,6 +9,8 @@ import json
 import re
 from typing import Any, Iterable, NamedTuple
 
+from agent.words import lined
+
 WORD = re.compile(r"[!-~]+")
 WHO = re.compile(r"[!-~]{1,64}")
 ENDS = ("commit", "release", "fence", "withdraw", "lost")  # of a lease
@@ -51,7 +53,7 @@ def cut(text: str) -> str:
 
 def slot_of(folder: str) -> str:
     """The name under which the history has a folder: what a merged one commits is of the locked one."""
-    return cut("locked:" + folder.removeprefix("merged:") if folder.startswith("merged:") else folder)
+    return cut(lined(folder))
 
 
 def cut_all(words: Iterable[str]) -> tuple[str, ...]:
