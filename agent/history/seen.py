@@ -9,7 +9,7 @@ import threading
 import time
 from collections import OrderedDict
 from dataclasses import dataclass, field
-from typing import Callable, Iterator
+from typing import Callable, Iterator, TypeVar
 
 from agent.filters.lines import Answer
 from agent.history import hints
@@ -22,6 +22,10 @@ BURST, REFILL = 10_000, 20.0  # events of one node at once, and how many more ea
 
 QUIET = ("started", "status", "line", "needed")  # answers in which nothing new comes to pass, of many lines maybe
 NOTES = {"ended": "withdraw", "withdrawn": "withdraw", "released": "release"}  # how a lease ended of which these tell
+
+
+Key = TypeVar("Key")
+Value = TypeVar("Value")
 
 
 @dataclass
@@ -72,6 +76,7 @@ class Seen:
         self.history = history
         self.lock = threading.Lock()
         self.asks: OrderedDict[tuple[int, int, int], Asked] = OrderedDict()  # by node, life and ask
+        self.granted: OrderedDict[tuple[int, int, int], None] = OrderedDict()  # asks that were granted last
         self.leases: OrderedDict[int, Lease] = OrderedDict()
         self.over: OrderedDict[int, Lease] = OrderedDict()
         self.holders: dict[str, int] = {}  # of a folder: the ticket under which it was given to one alone last
@@ -125,8 +130,8 @@ class Seen:
                 self._put(self.over, event.ticket, lease, OVER_MOST)
 
     @staticmethod
-    def _put(where: OrderedDict[int, Lease], ticket: int, lease: Lease, most: int) -> None:
-        where[ticket] = lease
+    def _put(where: OrderedDict[Key, Value], key: Key, value: Value, most: int) -> None:
+        where[key] = value
         while len(where) > most:
             where.popitem(last=False)
 
@@ -166,6 +171,7 @@ class Seen:
     def _grant(self, node: int, life: int, ask: int, ticket: int, slots: list[str]) -> None:
         now = time.time()
         asked = self.asks.pop((node, life, ask), None)
+        self._put(self.granted, (node, life, ask), None, OVER_MOST)
         folders = cut_all(word.rpartition("=")[0] for word in slots)
         for slot in folders:
             self._end(self.holders.get(slot_name(slot), 0), "lost")
@@ -246,7 +252,10 @@ class Seen:
             del self.asks[key]
 
     def _hear_ask(self, node: int, life: int, ask: int, folders: list[str], note: str) -> None:
-        key, is_new = (node, life, ask), (node, life, ask) not in self.asks
+        key = (node, life, ask)
+        if key in self.granted:  # by a line that was answered together with this one
+            return
+        is_new = key not in self.asks
         event = Event("ask", node=node, ask=ask, folders=cut_all(folders))
         if is_new:
             self._add(event)

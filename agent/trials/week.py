@@ -1,10 +1,11 @@
 #!/usr/bin/env -S python3 -I
 """A week in an hour: commands of three nodes over Redis, while all agents forget by themselves and leases are withdrawn.
 
-usage: agent/trials/week.py [--seconds S] [--seed N]
+usage: agent/trials/week.py [--seconds S] [--seed N] [--at-once N]
 
-At the end each of the last versions is read back whole, what the stores had was bounded throughout, and /metrics agrees with what the commands
-were told. The status is 1 where one of these isn't so.
+At the end each of the last versions is read back whole, what the stores had was bounded throughout, and the history has each version and each
+end of a lease once, as the commands were told it. What agents count, /metrics, and the page in a browser agree with the history. The status is
+1 where one of these isn't so.
 """
 from __future__ import annotations
 
@@ -19,17 +20,22 @@ import sys
 import tempfile
 import threading
 import time
+import urllib.request
 from collections import Counter
+from typing import NamedTuple
 
 sys.path.insert(0, os.path.dirname(os.path.dirname(os.path.dirname(os.path.abspath(__file__)))))
 
 from agent.commands.ask import counted  # noqa: E402
 from agent.counts import Sample  # noqa: E402
+from agent.history.events import ENDS, Event, event_of, slot_name  # noqa: E402
 from agent.service import client  # noqa: E402
-from agent.service.operators import Status, StatusRequest  # noqa: E402
+from agent.service.operators import HistoryRequest, Past, Status, StatusRequest, WithdrawRequest  # noqa: E402
+from agent.service.requests import RunRequest  # noqa: E402
+from agent.tests.browser import Browser  # noqa: E402
 from agent.trials.farms import PYTHON_FARM, OverRedis  # noqa: E402
 
-NODES, FOLDERS, KEEP, EVERY = 3, 4, 3, 5  # seconds between two runs of gc
+NODES, FOLDERS, KEEP, EVERY = 3, 12, 3, 5  # seconds between two runs of gc
 DATA = 100_000  # bytes of a version, which don't pack
 WORK = "cat f/data 2>/dev/null | sha256sum | cmp -s - f/sum || [ ! -e f/sum ] || exit 9; head -c %d /dev/urandom >f/data; sha256sum <f/data >f/sum"
 GREATEST = 3 * FOLDERS * (KEEP + 2 * NODES) * DATA  # bytes of a store: what is kept, and what is made between two runs, thrice
@@ -45,45 +51,55 @@ class Forgetful(OverRedis):
         return [*PYTHON_FARM, *self.words(name)]
 
 
+class Seen(NamedTuple):
+    """What the history has of a folder's leases, or what of it the page shows."""
+
+    versions: tuple[int, ...] = ()  # in the order of their commits
+    ends: dict[str, int] = {}  # how many leases ended so: one that was fenced counts as that alone
+
+
 class Week:
-    def __init__(self, farm: Forgetful, seconds: float, seed: int) -> None:
-        self.farm, self.end, self.seed = farm, time.monotonic() + seconds, seed
+    """One lock has what commands were told."""
+
+    def __init__(self, farm: Forgetful, seconds: float, seed: int, at_once: int) -> None:
+        self.farm, self.end, self.seed, self.at_once = farm, time.monotonic() + seconds, seed, at_once
         self.lock = threading.Lock()
         self.told: Counter[str] = Counter()  # what came of commands, as they were told
         self.wrong = list[str]()
 
-    def work(self, node: int) -> None:
-        """Commands of a node, one after the other."""
-        dice, turn = random.Random(f"{self.seed}.{node}"), 0
+    def work(self, node: int, place: int) -> None:
+        """Commands of a node, one after the other, as `farm run` asks for them."""
+        dice = random.Random(f"{self.seed}.{node}.{place}")
+        room, path = f"{self.farm.room}/work{node}.{place}", f"{self.farm.home(node)}/node{node}.sock"
+        os.makedirs(room)
         while time.monotonic() < self.end:
-            turn += 1
-            room = f"{self.farm.room}/work{node}"
-            os.makedirs(room, exist_ok=True)
             folder = f"{dice.choice(('locked', 'locked', 'merged'))}:c{dice.randrange(FOLDERS)}"
-            words = [*PYTHON_FARM, "run", "--home", self.farm.home(node), "--folder", f"{folder}=f", "--", "sh", "-c", WORK % DATA]
-            done = subprocess.run(words, cwd=room, capture_output=True, text=True, stdin=subprocess.DEVNULL)
-            self.take(done)
+            request = RunRequest(
+                command=("sh", "-c", WORK % DATA), folders=(f"{folder}=f",), cwd=room, env=dict(os.environ), umask=0o022, who=f"week-{place}",
+            )
+            self.take(client.ask(path, request, shows=False))
 
-    def take(self, done: subprocess.CompletedProcess[str]) -> None:
-        said = re.findall(r"^farm: (committed|fenced|merged|lost) ", done.stderr, re.MULTILINE)
+    def take(self, asked: client.Asked) -> None:
+        said = [found[1] for text in asked.said if (found := re.match("(committed|fenced|merged|lost) ", text))]
         with self.lock:
-            self.told[said[-1] if said else f"status {done.returncode}"] += 1
-            if done.returncode or not said:
-                self.wrong.append(f"a command ended with {done.returncode}: {done.stderr[-300:]}")
+            self.told[said[-1] if said else f"status {asked.status}"] += 1
+            if asked.status or not said:
+                self.wrong.append(f"a command ended with {asked.status}: {asked.said[-3:]}")
 
     def disturb(self) -> None:
-        """Withdraws a lease now and then."""
+        """Withdraws a lease now and then: the newest one, which may be over before that is heard."""
         dice = random.Random(self.seed)
         while time.monotonic() < self.end:
             time.sleep(dice.uniform(1, 4))
             if leases := self.status().leases:
-                subprocess.run([*PYTHON_FARM, "withdraw", "--home", self.farm.home(None), str(leases[0].ticket)], capture_output=True)
+                client.ask(f"{self.farm.home(None)}/coordinator.sock", WithdrawRequest(ticket=max(lease.ticket for lease in leases)), shows=False)
 
     def status(self) -> Status:
         return client.told_at(f"{self.farm.home(None)}/coordinator.sock", StatusRequest(last=KEEP), Status, shows=False)
 
     def run(self) -> None:
-        works = [threading.Thread(target=self.work, args=(node,)) for node in range(1, NODES + 1)] + [threading.Thread(target=self.disturb)]
+        places = [(node, place) for node in range(1, NODES + 1) for place in range(self.at_once)]
+        works = [threading.Thread(target=self.work, args=place) for place in places] + [threading.Thread(target=self.disturb)]
         for thread in works:
             thread.start()
         for thread in works:
@@ -96,6 +112,8 @@ class Week:
         status = self.status()
         self.judge_versions(status)
         self.judge_counts(status)
+        self.judge_history(status)
+        self.judge_page(status)
         self.judge_sizes()
 
     def judge_versions(self, status: Status) -> None:
@@ -121,6 +139,67 @@ class Week:
         ]
         self.wrong += [f"{what} don't agree: {one:g} and {other:g}" for what, one, other in rows if one != other]
 
+    def past(self, asked: HistoryRequest) -> list[Event]:
+        told = client.told_at(f"{self.farm.home(None)}/coordinator.sock", asked, Past, shows=False)
+        if told.left_out:
+            self.wrong.append(f"the history leaves {told.left_out} events of {asked} out")
+        return [event for line in told.lines if (event := event_of(line))]
+
+    def judge_history(self, status: Status) -> None:
+        """Each version is there once, each grant has one end, and there are as many as agents counted."""
+        kinds: Counter[str] = Counter()
+        for folder in status.folders:
+            events = [event for event in self.past(HistoryRequest(folder=folder.slot)) if event.is_of(folder.slot)]
+            kinds.update(event.kind for event in events)
+            granted, ended = (sorted(event.ticket for event in events if event.kind in of) for of in (("grant",), set(ENDS) - {"fence"}))
+            if granted != ended or len(set(granted)) < len(granted):
+                self.wrong.append(f"{folder.slot}: grants {sorted(set(granted) ^ set(ended))[:9]} and ends aren't one to one")
+            if seen_of(events)[folder.slot].versions != tuple(range(1, folder.version + 1)):
+                self.wrong.append(f"{folder.slot}: the history's versions aren't 1 to {folder.version}")
+            tickets = {event.versions[folder.slot][0]: event.ticket for event in events if event.kind == "commit"}
+            if any(tickets.get(each.version) != each.ticket for each in folder.versions):
+                self.wrong.append(f"{folder.slot}: the history has other tickets than {[each.ticket for each in folder.versions]}")
+        print(f"the history has {dict(kinds)}")
+        samples = counted(self.farm.home(None))
+        over, numbers = values(samples, "leases_over_total"), {sample.name: sample.value for sample in samples if not sample.labels}
+        rows = [
+            ("commits", kinds["commit"], over["committed"]), ("withdrawals", kinds["withdraw"], over["ended"]), ("fences", kinds["fence"], over["fenced"]),
+            ("waits", kinds["grant"], numbers["wait_seconds_count"]), ("holds", sum(kinds[end] for end in set(ENDS) - {"fence"}), numbers["hold_seconds_count"]),
+            ("asks", kinds["ask"], kinds["grant"]), ("begins", kinds["begin"], kinds["grant"]), ("lost leases", kinds["lost"], 0),
+        ]
+        self.wrong += [f"the history's {what} and those that agents counted: {one} and {other:g}" for what, one, other in rows if one != other]
+
+    def judge_page(self, status: Status) -> None:
+        """What the page has of the newest events, in a browser, and what /metrics tells, is what the history has."""
+        words = [*PYTHON_FARM, "web", "--home", self.farm.home(None), "--port", "0"]
+        with subprocess.Popen(words, stdin=subprocess.DEVNULL, stdout=subprocess.PIPE, text=True) as page:
+            try:
+                assert page.stdout
+                self._judge_page(status, page.stdout.readline().strip())
+            finally:
+                page.terminate()
+
+    def _judge_page(self, status: Status, url: str) -> None:
+        with urllib.request.urlopen(f"{url}metrics", timeout=60) as answer:
+            lines = set(answer.read().decode().splitlines())
+        wanted = [f"farm_versions {status.versions}", *(f'farm_folder_versions_total{{slot="{each.slot}"}} {each.version}' for each in status.folders)]
+        self.wrong += [f"/metrics hasn't {line}" for line in wanted if line not in lines]
+        browser = Browser(f"{self.farm.room}/browser", 1200, 1000)
+        try:
+            browser.open(url)
+            browser.wait("told && last > 0 && rows.size > 0")
+            found = browser.value(SPANS)
+            browser.picture(f"{tempfile.gettempdir()}/week.png")
+        finally:
+            browser.close()
+        newest = seen_of(self.past(HistoryRequest(after=0)))
+        shown = {slot: Seen(tuple(each["versions"]), each["ends"]) for slot, each in found["spans"].items()}
+        self.wrong += [f"the page has {shown.get(slot)} of {slot}, not {newest[slot]}" for slot in newest if shown.get(slot) != newest[slot]]
+        table = [[each.slot, str(each.version)] for each in status.folders]
+        if sorted(found["folders"]) != sorted(table):
+            self.wrong.append(f"the page has the folders {found['folders']}")
+        print(f"the page had {sum(sum(each.ends.values()) for each in shown.values())} ends of leases")
+
     def judge_sizes(self) -> None:
         """What each run of gc told is bounded, and some of them freed something."""
         for name in self.farm.names():
@@ -138,6 +217,25 @@ class Week:
                 self.wrong.append(f"{name} forgot {freed} contents, and had {greatest:.0f} bytes")
 
 
+SPANS = """({
+    spans: Object.fromEntries([...rows].map(([slot, {spans}]) => [slot, {
+        versions: spans.filter(span => span.how === "commit").map(span => span.version),
+        ends: spans.reduce((ends, span) => ({...ends, [span.how]: (ends[span.how] || 0) + 1}), {})}])),
+    folders: [...document.querySelectorAll("#folders tbody tr")].map(line => [line.cells[0].textContent, line.cells[1].textContent])})"""
+
+
+def seen_of(events: list[Event]) -> dict[str, Seen]:
+    """What events, the newest last, have of each folder."""
+    versions: dict[str, list[int]] = {}
+    ends: dict[tuple[str, int], str] = {}
+    for event in events:
+        for slot in map(slot_name, event.folders):
+            if event.kind in ENDS and (event.kind != "fence" or (slot, event.ticket) in ends):
+                ends[slot, event.ticket] = event.kind
+                versions.setdefault(slot, []).extend(event.versions[slot][:1] if slot in event.versions else ())
+    return {slot: Seen(tuple(found), dict(Counter(how for (of, _), how in ends.items() if of == slot))) for slot, found in versions.items()}
+
+
 def values(samples: tuple[Sample, ...], name: str) -> dict[str, float]:
     return {sample.labels["how"]: sample.value for sample in samples if sample.name == name}
 
@@ -146,12 +244,14 @@ def main() -> int:
     words = argparse.ArgumentParser(description=__doc__)
     words.add_argument("--seconds", type=float, default=3600)
     words.add_argument("--seed", type=int, default=1)
+    words.add_argument("--at-once", type=int, default=4, help="commands of each node")
     args = words.parse_args()
+    os.dup2(os.open(os.devnull, os.O_RDONLY), 0)
     room = tempfile.mkdtemp(prefix="farm-week-")
     farm = Forgetful(room, NODES, args.seed, None)
     try:
         farm.begin()
-        week = Week(farm, args.seconds, args.seed)
+        week = Week(farm, args.seconds, args.seed, args.at_once)
         week.run()
         week.judge()
     finally:
@@ -160,7 +260,7 @@ def main() -> int:
     for wrong in week.wrong:
         print(f"WRONG: {wrong}")
     if not week.wrong:
-        shutil.rmtree(room)
+        shutil.rmtree(room, ignore_errors=True)
     return 1 if week.wrong else 0
 
 
