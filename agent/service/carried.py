@@ -1,5 +1,8 @@
 """Requests and what is told, as a socket carries them: one line of JSON each, which names its kind.
 
+Processes of two versions talk so while a machine is upgraded: what a newer one tells beside what is known here is left out, and what an older
+one doesn't tell yet has its default. Of a request nothing is left out, since it would be done otherwise than it was meant.
+
 Owes the filters nothing: a line that is none is refused before anything is done.
 """
 from __future__ import annotations
@@ -30,14 +33,14 @@ def plain(value: Any) -> Any:
     return [plain(each) for each in value] if isinstance(value, tuple) else value
 
 
-def read(text: str | bytes) -> object:
-    """The request or answer that a line spells."""
+def read(text: str | bytes, *, is_told: bool = False) -> object:
+    """The request that a line spells, or the answer, which may be a newer version's."""
     try:
         found = json.loads(text)
         kind = kind_of(str(found.pop("kind")))
     except (ValueError, KeyError, TypeError, AttributeError):
         raise BadRequest("a line that names no request and no answer") from None
-    return made(kind, found)
+    return made(kind, found, is_told)
 
 
 def kind_of(name: str) -> Any:
@@ -49,22 +52,22 @@ def kind_of(name: str) -> Any:
     return vars(requests)[name]
 
 
-def made(kind: Any, value: Any) -> Any:
-    """A value of this kind, out of what JSON holds."""
+def made(kind: Any, value: Any, is_told: bool = False) -> Any:
+    """A value of this kind, out of what JSON holds. Of what is told unknown fields are left out."""
     origin, args = typing.get_origin(kind), typing.get_args(kind)
     if origin is types.UnionType:
-        return None if value is None and type(None) in args else made(args[0], value)
+        return None if value is None and type(None) in args else made(args[0], value, is_told)
     if origin is tuple and isinstance(value, list):
-        return tuple(made(args[0], each) for each in value)
+        return tuple(made(args[0], each, is_told) for each in value)
     if origin is dict and isinstance(value, dict):
-        return {key: made(args[1], each) for key, each in value.items()}
+        return {key: made(args[1], each, is_told) for key, each in value.items()}
     if hasattr(kind, "_fields") and isinstance(value, dict):
         hints = typing.get_type_hints(kind)
         unknown = value.keys() - hints.keys()
-        if unknown:
+        if unknown and not is_told:
             raise BadRequest(f"{kind.__name__} has no {', '.join(sorted(unknown))}")
         try:
-            return kind(**{name: made(hints[name], each) for name, each in value.items()})
+            return kind(**{name: made(hints[name], each, is_told) for name, each in value.items() if name in hints})
         except TypeError as fault:
             raise BadRequest(f"{kind.__name__}: {fault}") from None
     if kind is float and type(value) is int:

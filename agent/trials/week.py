@@ -3,9 +3,9 @@
 
 usage: agent/trials/week.py [--seconds S] [--seed N] [--at-once N]
 
-At the end each of the last versions is read back whole, what the stores had was bounded throughout, and the history has each version and each
-end of a lease once, as the commands were told it. What agents count, /metrics, and the page in a browser agree with the history. The status is
-1 where one of these isn't so.
+At the end each of the last versions is read back whole, what the stores had was bounded throughout, and the history, which is followed as the
+page does, has each version and each end of a lease once, as the commands were told it; its files are bounded, and have the last of it. What
+agents count, /metrics, and the page in a browser agree with it. The status is 1 where one of these isn't so.
 """
 from __future__ import annotations
 
@@ -29,6 +29,7 @@ sys.path.insert(0, os.path.dirname(os.path.dirname(os.path.dirname(os.path.abspa
 from agent.commands.ask import counted  # noqa: E402
 from agent.counts import Sample  # noqa: E402
 from agent.history.events import ENDS, Event, event_of, slot_name  # noqa: E402
+from agent.history.kept import FILE_MOST, FILES  # noqa: E402
 from agent.service import client  # noqa: E402
 from agent.service.operators import HistoryRequest, Past, Status, StatusRequest, WithdrawRequest  # noqa: E402
 from agent.service.requests import RunRequest  # noqa: E402
@@ -65,6 +66,8 @@ class Week:
         self.farm, self.end, self.seed, self.at_once = farm, time.monotonic() + seconds, seed, at_once
         self.lock = threading.Lock()
         self.told: Counter[str] = Counter()  # what came of commands, as they were told
+        self.over = threading.Event()
+        self.lines = list[str]()  # of the history, whose follower has them
         self.wrong = list[str]()
 
     def work(self, node: int, place: int) -> None:
@@ -92,19 +95,39 @@ class Week:
         while time.monotonic() < self.end:
             time.sleep(dice.uniform(1, 4))
             if leases := self.status().leases:
-                client.ask(f"{self.farm.home(None)}/coordinator.sock", WithdrawRequest(ticket=max(lease.ticket for lease in leases)), shows=False)
+                client.ask(self.coordinator, WithdrawRequest(ticket=max(lease.ticket for lease in leases)), shows=False)
+
+    def follow(self) -> None:
+        """Hears the history's new events, until all is over."""
+        last, is_over = 0, False
+        while not is_over:
+            is_over = self.over.wait(0.5)
+            told = self.past(HistoryRequest(after=last))
+            self.lines += told.lines
+            last = told.last
+
+    def past(self, asked: HistoryRequest) -> Past:
+        return client.told_at(self.coordinator, asked, Past, shows=False)
+
+    @property
+    def coordinator(self) -> str:
+        return f"{self.farm.home(None)}/coordinator.sock"
 
     def status(self) -> Status:
-        return client.told_at(f"{self.farm.home(None)}/coordinator.sock", StatusRequest(last=KEEP), Status, shows=False)
+        return client.told_at(self.coordinator, StatusRequest(last=KEEP), Status, shows=False)
 
     def run(self) -> None:
         places = [(node, place) for node in range(1, NODES + 1) for place in range(self.at_once)]
-        works = [threading.Thread(target=self.work, args=place) for place in places] + [threading.Thread(target=self.disturb)]
-        for thread in works:
+        works = [threading.Thread(target=self.work, args=place) for place in places]
+        works.append(threading.Thread(target=self.disturb))
+        follower = threading.Thread(target=self.follow)
+        for thread in [*works, follower]:
             thread.start()
         for thread in works:
             thread.join()
         time.sleep(2 * EVERY + 2)  # the last runs of gc
+        self.over.set()
+        follower.join()
 
     # The verdict.
 
@@ -139,33 +162,42 @@ class Week:
         ]
         self.wrong += [f"{what} don't agree: {one:g} and {other:g}" for what, one, other in rows if one != other]
 
-    def past(self, asked: HistoryRequest) -> list[Event]:
-        told = client.told_at(f"{self.farm.home(None)}/coordinator.sock", asked, Past, shows=False)
-        if told.left_out:
-            self.wrong.append(f"the history leaves {told.left_out} events of {asked} out")
-        return [event for line in told.lines if (event := event_of(line))]
-
     def judge_history(self, status: Status) -> None:
         """Each version is there once, each grant has one end, and there are as many as agents counted."""
-        kinds: Counter[str] = Counter()
+        events = [event for line in self.lines if (event := event_of(line))]
+        if [event.number for event in events] != list(range(1, len(self.lines) + 1)):
+            self.wrong.append("the history's numbers don't rise by one")
+        kinds, seen = Counter(event.kind for event in events), seen_of(events)
+        granted, ended = (sorted(event.ticket for event in events if event.kind in of) for of in (("grant",), set(ENDS) - {"fence"}))
+        if granted != ended or len(set(granted)) < len(granted):
+            self.wrong.append(f"grants and ends aren't one to one: {sorted(set(granted) ^ set(ended))[:9]}")
+        tickets = {(slot, version[0]): event.ticket for event in events for slot, version in event.versions.items()}
         for folder in status.folders:
-            events = [event for event in self.past(HistoryRequest(folder=folder.slot)) if event.is_of(folder.slot)]
-            kinds.update(event.kind for event in events)
-            granted, ended = (sorted(event.ticket for event in events if event.kind in of) for of in (("grant",), set(ENDS) - {"fence"}))
-            if granted != ended or len(set(granted)) < len(granted):
-                self.wrong.append(f"{folder.slot}: grants {sorted(set(granted) ^ set(ended))[:9]} and ends aren't one to one")
-            if seen_of(events)[folder.slot].versions != tuple(range(1, folder.version + 1)):
+            if seen[folder.slot].versions != tuple(range(1, folder.version + 1)):
                 self.wrong.append(f"{folder.slot}: the history's versions aren't 1 to {folder.version}")
-            tickets = {event.versions[folder.slot][0]: event.ticket for event in events if event.kind == "commit"}
-            if any(tickets.get(each.version) != each.ticket for each in folder.versions):
+            if any(tickets.get((folder.slot, each.version)) != each.ticket for each in folder.versions):
                 self.wrong.append(f"{folder.slot}: the history has other tickets than {[each.ticket for each in folder.versions]}")
+            self.judge_kept(folder.slot)
         print(f"the history has {dict(kinds)}")
+        self.judge_kinds(kinds)
+        sizes = [entry.stat().st_size for entry in os.scandir(self.farm.home(None)) if entry.name.startswith("history")]
+        if len(sizes) > FILES or max(sizes) > FILE_MOST:
+            self.wrong.append(f"the history's files have {sizes} bytes")
+
+    def judge_kept(self, slot: str) -> None:
+        """What the files have of a folder is the last of what was heard of it."""
+        told, heard = ([line for line in lines if f'"{slot}"' in line] for lines in (self.past(HistoryRequest(folder=slot)).lines, self.lines))
+        if not told or told != heard[-len(told) :]:
+            self.wrong.append(f"{slot}: the history's files have {len(told)} lines, which aren't the last of {len(heard)}")
+
+    def judge_kinds(self, kinds: Counter[str]) -> None:
         samples = counted(self.farm.home(None))
         over, numbers = values(samples, "leases_over_total"), {sample.name: sample.value for sample in samples if not sample.labels}
         rows = [
             ("commits", kinds["commit"], over["committed"]), ("withdrawals", kinds["withdraw"], over["ended"]), ("fences", kinds["fence"], over["fenced"]),
             ("waits", kinds["grant"], numbers["wait_seconds_count"]), ("holds", sum(kinds[end] for end in set(ENDS) - {"fence"}), numbers["hold_seconds_count"]),
-            ("asks", kinds["ask"], kinds["grant"]), ("begins", kinds["begin"], kinds["grant"]), ("lost leases", kinds["lost"], 0),
+            ("asks", kinds["ask"], kinds["grant"]), ("lost leases", kinds["lost"], 0),
+            ("begins", kinds["begin"], max(kinds["grant"] - kinds["withdraw"], min(kinds["begin"], kinds["grant"]))),  # a lease may end before its command begins
         ]
         self.wrong += [f"the history's {what} and those that agents counted: {one} and {other:g}" for what, one, other in rows if one != other]
 
@@ -192,7 +224,7 @@ class Week:
             browser.picture(f"{tempfile.gettempdir()}/week.png")
         finally:
             browser.close()
-        newest = seen_of(self.past(HistoryRequest(after=0)))
+        newest = seen_of([event for line in self.past(HistoryRequest(after=0)).lines if (event := event_of(line))])
         shown = {slot: Seen(tuple(each["versions"]), each["ends"]) for slot, each in found["spans"].items()}
         self.wrong += [f"the page has {shown.get(slot)} of {slot}, not {newest[slot]}" for slot in newest if shown.get(slot) != newest[slot]]
         table = [[each.slot, str(each.version)] for each in status.folders]
