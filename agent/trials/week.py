@@ -39,6 +39,7 @@ from agent.trials.farms import PYTHON_FARM, OverRedis  # noqa: E402
 NODES, FOLDERS, KEEP, EVERY = 3, 12, 3, 5  # seconds between two runs of gc
 DATA = 100_000  # bytes of a version, which don't pack
 WORK = "cat f/data 2>/dev/null | sha256sum | cmp -s - f/sum || [ ! -e f/sum ] || exit 9; head -c %d /dev/urandom >f/data; sha256sum <f/data >f/sum"
+ENDED = re.compile(r"(committed|fenced|merged|lost) |[^ ]+ has it all in version")  # the last: others' edits of each path are newer
 GREATEST = 3 * FOLDERS * (KEEP + 2 * NODES) * DATA  # bytes of a store: what is kept, and what is made between two runs, thrice
 
 
@@ -83,7 +84,7 @@ class Week:
             self.take(client.ask(path, request, shows=False))
 
     def take(self, asked: client.Asked) -> None:
-        said = [found[1] for text in asked.said if (found := re.match("(committed|fenced|merged|lost) ", text))]
+        said = [found[1] or "all_newer" for text in asked.said if (found := ENDED.match(text))]
         with self.lock:
             self.told[said[-1] if said else f"status {asked.status}"] += 1
             if asked.status or not said:
@@ -157,7 +158,7 @@ class Week:
         rows = [
             ("versions and commits", status.versions, of_coordinator["committed"]),
             ("versions and commands that were told of one", status.versions, self.told["committed"] + self.told["merged"]),
-            ("commands that committed", of_nodes["committed"], self.told["committed"] + self.told["merged"]),
+            ("commands that committed", of_nodes["committed"], self.told["committed"] + self.told["merged"] + self.told["all_newer"]),
             ("commands that were fenced", of_nodes["fenced"], self.told["fenced"]),
         ]
         self.wrong += [f"{what} don't agree: {one:g} and {other:g}" for what, one, other in rows if one != other]
