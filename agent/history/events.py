@@ -14,7 +14,7 @@ from agent.words import lined
 WORD = re.compile(r"[!-~]+")
 WHO = re.compile(r"[!-~]{1,64}")
 ENDS = ("commit", "release", "fence", "withdraw", "lost")  # of a lease
-KINDS = ("ask", "wait", "deny", "grant", "begin", *ENDS, "prune", "retire")
+KINDS = ("ask", "wait", "deny", "leave", "grant", "begin", *ENDS, "prune", "retire")
 FOLDERS_MOST, FOLDER_MOST = 16, 256  # of one event, and characters of one: more are cut
 GREATEST = 2**53  # a number that every reader of JSON takes as it is
 
@@ -31,7 +31,7 @@ class Event(NamedTuple):
     folders: tuple[str, ...] = ()  # slots of a lease, or the folders of an ask; `ro=` before one that is only read
     who: str = ""
     versions: dict[str, tuple[int, int | None, int | None]] = {}  # of a slot: the number, files and bytes of its new version
-    waited: float | None = None  # seconds: from the ask to the grant, of a begin from the caller's wish to the beginning
+    waited: float | None = None  # seconds: from the ask to the grant, or until nobody wanted it any more; of a begin from the caller's wish on
     held: float | None = None  # seconds from the grant to this end of it
 
     def is_of(self, folder: str) -> bool:

@@ -13,8 +13,8 @@ from agent.history.events import WHO
 NUMBER = re.compile(r"[0-9]{1,15}", re.ASCII)
 SECONDS = re.compile(r"[0-9]{1,9}(\.[0-9])?", re.ASCII)
 SIZE = re.compile(r"([!-~]+)=([0-9]{1,15}):([0-9]{1,15})", re.ASCII)
-NAMES = ("waits", "begun", "keeps")
-WORDS_MOST = 24  # of one hint
+NAMES = ("waits", "begun", "keeps", "left")
+WORDS_MOST, ASKS_MOST = 24, 1_024  # words of one hint, and asks of one that tells which ones are left
 
 
 class Told(NamedTuple):
@@ -28,6 +28,7 @@ class Told(NamedTuple):
     waited: float = 0.0
     who: str = ""
     sizes: dict[str, tuple[int, int]] = {}  # of a slot: files and bytes
+    asks: tuple[int, ...] = ()  # for which nobody waits any more
 
 
 def waits(node: int, life: int, ask: int, waited: float, who: str) -> str:
@@ -47,13 +48,15 @@ def keeps(node: int, ticket: int, sizes: dict[str, tuple[int, int]]) -> str:
 
 def told(words: list[str]) -> Told | None:
     """The words of a hint, which a node sealed; none, where it isn't one of these, or has what none of them may have."""
-    if words[0] not in NAMES or not 4 <= len(words) <= WORDS_MOST:
+    if words[0] not in NAMES or not 4 <= len(words) <= (ASKS_MOST if words[0] == "left" else WORDS_MOST):
         return None
-    count = 4 if words[0] == "waits" else 3
+    count = {"waits": 4, "left": len(words)}.get(words[0], 3)
     numbers = words[1:count]
     if not all(NUMBER.fullmatch(word) for word in numbers):
         return None
     node, *ids = (int(word) for word in numbers)
+    if words[0] == "left":
+        return Told("left", node, life=ids[0], asks=tuple(ids[1:]))
     if words[0] == "keeps":
         found = [SIZE.fullmatch(word) for word in words[3:]]
         sizes = {each[1]: (int(each[2]), int(each[3])) for each in found if each}

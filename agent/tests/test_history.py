@@ -15,7 +15,7 @@ from agent.history import hints, seen
 from agent.history.events import FOLDER_MOST, Event, cut, event_of, line_of
 from agent.history.kept import History
 from agent.history.told import past_of, usual
-from agent.service.operators import HistoryRequest
+from agent.service.operators import HistoryRequest, Status, Waiting
 from agent.words import who_of
 
 from agent.tests import support
@@ -131,6 +131,7 @@ class Believes(support.RoomTest):
             ("begun 1 7 2.5 a@b", True), ("waits 1 1 3 0.0 -", True), ("keeps 1 7 locked:c=2:30", True), ("begun 1 7 2.5", False), ("begun 1 7 -1.0 x", False),
             ("begun 1 7 2.5 \x1b[2J", False), ("begun 1 7 2.5 é", False), (f"begun 1 7 2.5 {'x' * 65}", False), ("begun 1 7 2.5 a b", False), ("begun 1 x 2.5 a", False),
             (f"begun 1 {'9' * 16} 2.5 a", False), ("keeps 1 7 c=1", False), (f"keeps 1 7 c={'9' * 16}:1", False), (f"keeps 1 7{' c=1:1' * 30}", False), ("keeps 1 7", False),
+            ("left 1 1 3", True), (f"left 1 1{' 3' * 900}", True), ("left 1 1", False), ("left 1 1 x", False), (f"left 1 1{' 3' * 2000}", False),
             ("keeps 1 7 a\nb=1:1", False), ("held 1 7 2.5 a", False), ("begun 1 7 2.5 ", False), ("waits 1 ² 3 0.0 -", False),
         ]
         for text, is_right in rows:
@@ -171,6 +172,39 @@ class Believes(support.RoomTest):
         grants = [each for ticket in (1, 2, 3, 4) for each in (("ask", 1, 0, ""), ("grant", 1, ticket, ""))]
         self.assertEqual(self.told(), [*grants, ("withdraw", 1, 1, ""), ("fence", 1, 1, ""), ("release", 1, 2, ""), ("ask", 2, 0, ""), ("wait", 2, 0, ""), ("lost", 1, 3, ""),
                                        ("grant", 2, 6, "bob"), ("lost", 1, 4, ""), ("lost", 2, 6, "bob"), ("retire", 2, 0, ""), ("prune", 0, 8, "")])
+
+    def test_left(self) -> None:
+        """An ask that was given up says so once, also over a restart, and what comes of it later isn't its waiting."""
+        for ask in (5, 6):
+            self.seen.take(f"acquire 2 1 {ask} locked:c mac", "parked")
+        self.seen.hear_hint("waits 2 1 5 0.5 bob".split(" "))
+        for text in ("left 1 1 5", "left 2 2 5", "left 2 1 9", "left 2 1 5 9", "left 2 1 5"):
+            self.seen.hear_hint(text.split(" "))
+        found = next(self.history.events())
+        self.assertEqual((found.kind, found.folders, found.who, found.ask), ("leave", ("locked:c",), "bob", 5))
+        self.assertIsNotNone(found.waited)
+        ready(self.history)
+        self.history = History(self.path("history"), lambda text: None)
+        self.addCleanup(self.history.close)
+        self.seen = seen.Seen(self.history)
+        waiting = tuple(Waiting(kind="acquire", node=2, life=1, ask=ask, folders=("locked:c",), left=False) for ask in (5, 6))
+        self.seen.begin(Status(leases=(), waiting=waiting, folders=(), lives={}, gone=(), retired=(), tickets=0, heard={}, now=0.0))
+        self.assertEqual(self.seen.asked(2, 1, 6)[0], next(self.history.events('"wait"', '"ask":6')).at)
+        self.seen.hear_hint("left 2 1 5".split(" "))
+        self.seen.hear(Answer(sends=[f"granted 2 1 5 6 plain locked:c=0:{'0' * 64} mac"], note="nothing"))
+        self.assertIsNone(next(self.history.events()).waited)
+        self.seen.take("hello 2 2 mac", "nothing")
+        self.seen.take("acquire 2 2 1 locked:c mac", "parked")
+        self.seen.hear(Answer(note="retired 2"))
+        kinds = [(event.kind, event.ask) for event in reversed(list(self.history.events())) if event.kind in ("leave", "grant")]
+        self.assertEqual(kinds, [("leave", 5), ("grant", 5), ("leave", 6), ("leave", 1)])
+
+    def test_together(self) -> None:
+        """An ask that was granted by a line that came together with it is one, and doesn't wait."""
+        self.grant(1, 7)
+        self.seen.take("acquire 1 1 7 locked:c mac", "parked")
+        self.assertEqual([each[0] for each in self.told()], ["ask", "grant"])
+        self.assertEqual(self.seen.asks, {})
 
     def test_lost_answer(self) -> None:
         """A commit whose answer was lost with its filter counts when it is told again, also where another one has the folder by then."""
