@@ -68,7 +68,7 @@ def line_of(event: Event) -> str:
 
 
 def event_of(line: str) -> Event | None:
-    """The event that a line spells; none, where it spells none, or one with what no event has."""
+    """The event that a line spells; none, where it spells none. What a newer agent tells beside is left out."""
     try:
         found = json.loads(line)
         return _made(found) if isinstance(found, dict) and is_event(found) else None
@@ -78,13 +78,14 @@ def event_of(line: str) -> Event | None:
 
 def _made(found: dict[str, Any]) -> Event:
     versions = {slot: tuple(some) for slot, some in found.get("versions", {}).items()}
-    whole: dict[str, Any] = found | {"folders": tuple(found.get("folders", ())), "versions": versions}
+    known = {name: value for name, value in found.items() if name in SHAPES}
+    whole: dict[str, Any] = known | {"folders": tuple(found.get("folders", ())), "versions": versions}
     return Event(**whole)
 
 
 def is_event(found: dict[str, Any]) -> bool:
     """Whether each value is one that an event may have."""
-    return found.get("kind") in KINDS and _is_time(found.get("at")) and all(name in SHAPES and SHAPES[name](value) for name, value in found.items())
+    return found.get("kind") in KINDS and _is_time(found.get("at")) and all(SHAPES[name](value) for name, value in found.items() if name in SHAPES)
 
 
 def _is_number(value: Any) -> bool:

@@ -248,6 +248,17 @@ class InBrowser(Served):
             browser.key("?")
         self.assertIn("after its lease had ended", browser.value("document.querySelector('dialog[open]').textContent"))
 
+    def test_left(self) -> None:
+        """An ask that was given up has the bar of its waiting up to then, and the one that still stands for it none."""
+        now = time.time()
+        browser = self.browser()
+        browser.open(f"http://127.0.0.1:{self.serve(told(1, 0), events=[Event('leave', number=1, at=now - 30, node=1, folders=('locked:c',), who='bob', waited=20.0)])}/")
+        self.assertTrue(browser.wait("rows.size === 1"))
+        browser.value("look(told.now - 60, told.now)")
+        texts = browser.value("[-40, -10].map(ago => under(NAMES + (60 + ago) / 60 * (past.clientWidth - NAMES), AXIS + 10))")
+        self.assertRegex(texts[0], r"\Alocked:c\nnode 1, by bob\ngave up at 20[^\n]*\nwaited 20 s\Z")
+        self.assertEqual(texts[1], "")
+
     def test_strange_past(self) -> None:
         """What is no event is skipped, markup stays text, and a history that began anew is taken anew."""
         made = [Event("grant", number=1, at=1.0, node=1, ticket=1, folders=(MARKED,)), Event("commit", number=2, at=time.time(), node=1, ticket=1, folders=(MARKED,), who=MARKED, held=9.0)]
