@@ -33,6 +33,7 @@ class Event(NamedTuple):
     versions: dict[str, tuple[int, int | None, int | None]] = {}  # of a slot: the number, files and bytes of its new version
     waited: float | None = None  # seconds: from the ask to the grant, or until nobody wanted it any more; of a begin from the caller's wish on
     held: float | None = None  # seconds from the grant to this end of it
+    hits: dict[str, tuple[int, int]] = {}  # of a slot's ccache: how much it had of what the command asked for
 
     def is_of(self, folder: str) -> bool:
         """Whether it is of a folder, or of one slot."""
@@ -77,9 +78,9 @@ def event_of(line: str) -> Event | None:
 
 
 def _made(found: dict[str, Any]) -> Event:
-    versions = {slot: tuple(some) for slot, some in found.get("versions", {}).items()}
+    versions, hits = ({slot: tuple(some) for slot, some in found.get(name, {}).items()} for name in ("versions", "hits"))
     known = {name: value for name, value in found.items() if name in SHAPES}
-    whole: dict[str, Any] = known | {"folders": tuple(found.get("folders", ())), "versions": versions}
+    whole: dict[str, Any] = known | {"folders": tuple(found.get("folders", ())), "versions": versions, "hits": hits}
     return Event(**whole)
 
 
@@ -112,8 +113,16 @@ def _is_version(value: Any) -> bool:
     return isinstance(value, list) and len(value) == 3 and _is_number(value[0]) and all(each is None or _is_number(each) for each in value[1:])
 
 
+def _are_hits(value: Any) -> bool:
+    return isinstance(value, dict) and _are_folders(list(value)) and all(map(_are_counts, value.values()))
+
+
+def _are_counts(value: Any) -> bool:
+    return isinstance(value, list) and len(value) == 2 and all(map(_is_number, value)) and value[0] <= value[1]
+
+
 SHAPES = {
     "kind": lambda value: value in KINDS, "number": _is_number, "at": _is_time, "node": _is_number, "ticket": _is_number, "ask": _is_number,
     "folders": _are_folders, "who": lambda value: isinstance(value, str) and WHO.fullmatch(value) is not None, "versions": _are_versions,
-    "waited": _is_time, "held": _is_time,
+    "waited": _is_time, "held": _is_time, "hits": _are_hits,
 }

@@ -51,6 +51,7 @@ class Lease:
     waited: float | None = None
     has_begun: bool = False
     sizes: dict[str, tuple[int, int]] = field(default_factory=dict)
+    hits: dict[str, tuple[int, int]] = field(default_factory=dict)
     is_fenced: bool = False
     how: str = ""  # it ended
 
@@ -214,7 +215,7 @@ class Seen:
         self._put(self.over, ticket, lease, OVER_MOST)
         self._add(Event(
             how, at=now, node=lease.node, ticket=ticket, ask=lease.ask, folders=lease.folders, who=lease.who, versions=versions or {},
-            waited=lease.waited, held=held,
+            waited=lease.waited, held=held, hits=lease.hits,
         ))
 
     def _lose(self, is_lost: Callable[[int, Lease], bool]) -> None:
@@ -301,6 +302,8 @@ class Seen:
                 return
             if told.name == "keeps" and not lease.sizes:
                 lease.sizes = {slot: size for slot, size in told.sizes.items() if cut(slot) in lease.folders}
+            if told.name == "hits" and not lease.hits:
+                lease.hits = {cut(slot): (had, of) for slot, (had, of) in told.sizes.items() if cut(slot) in lease.folders and had <= of}
             if told.name == "begun" and not lease.has_begun:
                 lease.has_begun, lease.who = True, told.who
                 self._add(Event("begin", node=told.node, ticket=told.ticket, ask=lease.ask, folders=lease.folders, who=told.who, waited=told.waited))

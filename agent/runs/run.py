@@ -13,6 +13,7 @@ from typing import Callable
 
 from agent.runs.caller import Caller, Patience
 from agent.runs.executions import Execution
+from agent.runs.hits import counts, since
 from agent.runs.merged import TARGETS, Counted, InConflict, Own
 from agent.faults import LOST, ClientGone, FarmFault, LifeOver, NodeRetired, UsageFault, WaitOver
 from agent.filters.lines import check_finished, line_of
@@ -141,7 +142,7 @@ class Run:
         with contextlib.ExitStack() as held:
             self._place({}, {})
             self._hold_paths(held, {})
-            status = self._command(None, {}, self._merged_binds())
+            status = self._counted(None, {}, self._merged_binds())
         self._left({})
         self.counts = not status or self.job.keeps_failed
         self.how = "committed" if self.counts else "failed"
@@ -253,7 +254,7 @@ class Run:
                 agent.places.clear(path)
                 binds.append((tenures[want.folder].path, path, want.writable))
         try:
-            status = self.ended = self._command(grant, tenures, binds)
+            status = self.ended = self._counted(grant, tenures, binds)
         finally:
             for want in self.leased:
                 if not want.is_shared:
@@ -333,6 +334,19 @@ class Run:
         index, digest = self.agent.places.keep(self.agent.store, self.paths[slot.folder], away, patience.check)
         self.kept.append(digest)
         return index, digest
+
+    def _counted(self, grant: Grant | None, tenures: dict[str, Tenure], binds: list[tuple[str, str, bool]]) -> int:
+        """Runs the command, and learns what ccache had for it in the folders that it has alone."""
+        slots = {slot.name: self.paths[slot.folder] for slot in grant.slots if slot.writable} if grant else {}
+        owns = {own.slot: own.held.path for own in self.owns.values() if own.want.writable}
+        before = {slot: counts(path) for slot, path in (slots | owns).items()}
+        status = self._command(grant, tenures, binds)
+        hits = {slot: found for slot, path in (slots | owns).items() if (found := since(before[slot], counts(path)))}
+        for own in self.owns.values():
+            own.hits = {slot: found for slot, found in hits.items() if slot == own.slot}
+        if grant:
+            self.agent.tell_hits(grant.ticket, {slot: found for slot, found in hits.items() if slot in slots})
+        return status
 
     def _command(self, grant: Grant | None, tenures: dict[str, Tenure], binds: list[tuple[str, str, bool]]) -> int:
         agent, job = self.agent, self.job

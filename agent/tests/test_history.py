@@ -15,6 +15,7 @@ from agent.history import hints, seen
 from agent.history.events import FOLDER_MOST, Event, cut, event_of, line_of
 from agent.history.kept import History
 from agent.history.told import past_of, usual
+from agent.runs.hits import Counts, counts, since
 from agent.service.operators import HistoryRequest, Status, Waiting
 from agent.words import who_of
 
@@ -25,7 +26,7 @@ SPOILT = (
     '{"kind":"grant","number":true,"at":1}', '{"kind":"grant","number":1,"at":NaN}', '{"kind":"grant","number":1,"at":1e400}',
     '{"kind":"grant","number":1,"at":1,"who":"a b"}', '{"kind":"grant","number":1,"at":1,"who":"\\u001b[2J"}', '{"kind":"grant","number":1,"at":1,"folders":"c"}',
     '{"kind":"grant","number":1,"at":1,"folders":["a\\nb"]}', f'{{"kind":"grant","number":1,"at":1,"folders":["{"x" * 400}"]}}',
-    '{"kind":"commit","number":1,"at":1,"versions":{"c":[1]}}', '{"kind":"commit","number":1,"at":1,"versions":{"c":[1,"2",3]}}', "[" * 9000, "\x00\x7f\xff",
+    '{"kind":"commit","number":1,"at":1,"hits":{"c":[2,1]}}', '{"kind":"commit","number":1,"at":1,"versions":{"c":[1]}}', '{"kind":"commit","number":1,"at":1,"versions":{"c":[1,"2",3]}}', "[" * 9000, "\x00\x7f\xff",
     '{"kind":"grant","number":1,"at":1',
 )
 
@@ -132,7 +133,7 @@ class Believes(support.RoomTest):
             ("begun 1 7 2.5 a@b", True), ("waits 1 1 3 0.0 -", True), ("keeps 1 7 locked:c=2:30", True), ("begun 1 7 2.5", False), ("begun 1 7 -1.0 x", False),
             ("begun 1 7 2.5 \x1b[2J", False), ("begun 1 7 2.5 é", False), (f"begun 1 7 2.5 {'x' * 65}", False), ("begun 1 7 2.5 a b", False), ("begun 1 x 2.5 a", False),
             (f"begun 1 {'9' * 16} 2.5 a", False), ("keeps 1 7 c=1", False), (f"keeps 1 7 c={'9' * 16}:1", False), (f"keeps 1 7{' c=1:1' * 30}", False), ("keeps 1 7", False),
-            ("left 1 1 3", True), (f"left 1 1{' 3' * 900}", True), ("left 1 1", False), ("left 1 1 x", False), (f"left 1 1{' 3' * 2000}", False),
+            ("hits 1 7 locked:c=3:4", True), ("hits 1 7 locked:c=3", False), ("left 1 1 3", True), (f"left 1 1{' 3' * 900}", True), ("left 1 1", False), ("left 1 1 x", False), (f"left 1 1{' 3' * 2000}", False),
             ("keeps 1 7 a\nb=1:1", False), ("held 1 7 2.5 a", False), ("begun 1 7 2.5 ", False), ("waits 1 ² 3 0.0 -", False),
         ]
         for text, is_right in rows:
@@ -141,6 +142,8 @@ class Believes(support.RoomTest):
     def test_another_node(self) -> None:
         """A node is believed about its own leases, once of each thing, and about no slot that it doesn't have."""
         self.grant(1, 7)
+        for text in ("hits 2 7 locked:c=1:1", "hits 1 7 locked:d=1:1 locked:c=9:8", "hits 1 7 locked:c=8:9", "hits 1 7 locked:c=9:9"):
+            self.seen.hear_hint(text.split(" "))
         for text in ("begun 2 7 1.0 mallory", "keeps 2 7 locked:c=1:1", "begun 1 9 1.0 x", "begun 1 7 1.0 alice", "begun 1 7 1.0 again", "keeps 1 7 locked:d=1:1 locked:c=2:30",
                      "keeps 1 7 locked:c=9:99"):
             self.seen.hear_hint(text.split(" "))
@@ -150,7 +153,8 @@ class Believes(support.RoomTest):
         for note in ("committed before 7", "committed before 7"):  # the first answer was lost with its filter
             self.seen.hear(Answer(sends=[f"committed 1 1 7 locked:c=1:{'a' * 64} mac"], note=note))
         self.assertEqual(self.told(), [("ask", 1, 0, ""), ("grant", 1, 7, ""), ("begin", 1, 7, "alice"), ("commit", 1, 7, "alice")])
-        self.assertEqual(next(self.history.events()).versions, {"locked:c": (1, 2, 30)})
+        last = next(self.history.events())
+        self.assertEqual((last.versions, last.hits, event_of(line_of(last))), ({"locked:c": (1, 2, 30)}, {"locked:c": (8, 9)}, last))
 
     def test_ends(self) -> None:
         """Each end of a lease, the commits that come after it, and asks that wait."""
@@ -236,6 +240,51 @@ class Believes(support.RoomTest):
         self.assertEqual(self.told(), [])
 
 
+CCACHE = """#!/bin/sh
+echo "$* $CCACHE_DIR $CCACHE_CONFIGPATH" >>%s
+cat $CCACHE_DIR/*/stats $CCACHE_DIR/*/*/stats 2>/dev/null || true
+"""
+
+
+def told_hits(hits: int, preprocessed: int, missed: int) -> str:
+    return f"direct_cache_hit\t{hits}\npreprocessed_cache_hit\t{preprocessed}\ncache_miss\t{missed}\nstats_updated_timestamp\t7\n"
+
+
+class Hits(support.RoomTest):
+    """What ccache counts: a stand-in for it tells what stands in its folder, and notes each call."""
+
+    def setUp(self) -> None:
+        super().setUp()
+        os.chmod(self.write("bin/ccache", CCACHE % self.path("calls")), 0o755)
+
+    def test_counts(self) -> None:
+        files: list[tuple[dict[str, str], Counts | None, bool]] = [
+            ({}, Counts(0, 0), False), ({"0/x": "1", "stats": told_hits(1, 1, 1), "config": ""}, Counts(0, 0), False), ({"0/stats": told_hits(5, 2, 3)}, Counts(7, 10), True),
+            ({"f/a/stats": told_hits(0, 0, 3)}, Counts(0, 3), True), ({"0/stats": "1\n2\n"}, None, True), ({"0/stats": told_hits(1, 1, 1).replace("1", "x")}, None, True),
+        ]
+        with mock.patch.dict("os.environ", {"PATH": f"{self.path('bin')}:{os.environ['PATH']}"}):
+            for number, (texts, wanted, is_called) in enumerate(files):
+                for name, text in texts.items():
+                    self.write(f"{number}/{name}", text)
+                self.write("calls", "")
+                self.assertEqual(counts(self.path(f"{number}")), wanted, texts)
+                self.assertEqual(self.read("calls"), f"--print-stats {self.path(f'{number}')} /dev/null\n" if is_called else "", texts)
+            self.write("calls", "")
+            os.symlink(self.path("2/0/stats"), self.write("9/0/x", "")[:-1] + "stats")  # a program of the command's made these
+            os.mkfifo(f"{os.path.dirname(self.write('8/0/x', ''))}/stats")
+            self.assertEqual([counts(self.path(name)) for name in ("8", "9")], [None, None])
+            self.assertEqual(self.read("calls"), "")
+            self.write("bin/ccache", "#!/bin/sh\nexit 1\n")
+            self.assertIsNone(counts(self.path("2")))
+        with mock.patch.dict("os.environ", {"PATH": "/nowhere"}):
+            self.assertEqual([counts(self.path(name)) for name in ("1", "2")], [Counts(0, 0), None])
+
+    def test_since(self) -> None:
+        rows = [((0, 0), (3, 4), (3, 4)), ((3, 4), (5, 9), (2, 5)), ((3, 4), (3, 4), None), ((3, 4), (0, 1), None), ((3, 4), (9, 5), None), (None, (1, 1), None), ((1, 1), None, None)]
+        for before, after, wanted in rows:
+            self.assertEqual(since(before and Counts(*before), after and Counts(*after)), wanted, (before, after))
+
+
 class Words(unittest.TestCase):
     def test_who(self) -> None:
         rows = (
@@ -294,6 +343,20 @@ class OfAFarm(support.FarmTest):
         for words, status in ((["why", "locked:none"], 70), (["why", "x"], 64), (["history", "x"], 64), (["history", "--since", "soon"], 64), (["run", "--as", "a b", "true"], 64)):
             with contextlib.redirect_stderr(io.StringIO()):
                 self.asked(*words, status=status)
+
+    def test_hits(self) -> None:
+        """What ccache had for a command stands where its lease ends, also of one that failed, and of a merged folder."""
+        os.chmod(self.write("bin/ccache", CCACHE % self.path("calls")), 0o755)
+        self.env["PATH"] = f"{self.path('bin')}:{os.environ['PATH']}"
+        self.up("up", "--nodes", "1")
+        for number, (folder, counted, status) in enumerate((("locked:c", (0, 0, 3), 0), ("locked:c", (4, 1, 4), 0), ("locked:c", (9, 1, 4), 7), ("merged:c", (5, 1, 5), 0), ("locked:d", (), 0))):
+            text = self.write(f"{number}", told_hits(*counted) if counted else "")
+            self.farm("run", "--folder", f"{folder}=w", "--", "sh", "-c", f"mkdir -p w/0; cp {text} w/0/{'stats' if counted else 'x'}; exit {status}", status=status)
+        found = [(event["kind"], event.get("hits")) for event in self.events() if event["kind"] in ("commit", "release")]
+        wanted = [[0, 3], [5, 6], [5, 5], [1, 2]]
+        self.assertEqual(found, [(kind, {"locked:c": hits}) for kind, hits in zip(("commit", "commit", "release", "commit"), wanted)] + [("commit", None)])
+        self.assertRegex(self.asked("history", "locked:c"), r"(?m)^20[^ ]*Z node 1 commit locked:c version 2 .* held [0-9.]+ s 5 of 6 hits$")
+        self.assertEqual([each["hits"] for each in json.loads(self.asked("log", "--json", "locked:c"))["locked:c"]], [wanted[0], wanted[1], wanted[3]])
 
     def test_without(self) -> None:
         """A farm whose history can't be written goes on, and tells what it saw since it began."""

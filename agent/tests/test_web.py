@@ -54,6 +54,7 @@ def events(folders: int, count: int, now: float) -> list[Event]:
         made.append(whole._replace(
             kind=how, at=at + held, ticket=turn + 1, who=f"ci-{turn}", waited=waited, held=held,
             versions={folder: (turn // folders + 1, 40 + turn, 1_000_000 + 4000 * turn)} if how == "commit" else {},
+            hits={folder: (90 + turn % 10, 100)} if turn % 3 == 0 else {},
         ))
         made += [made[-1]._replace(kind="fence", held=None, waited=None)] if last == "fence" else []
     return [event._replace(number=number) for number, event in enumerate(made, 1)]
@@ -240,6 +241,7 @@ class InBrowser(Served):
         browser.value("wanted.value = 'cache07'; wanted.dispatchEvent(new Event('input'))")
         self.assertEqual(browser.value("shown"), ["locked:cache07"])
         found = browser.value("(() => { const span = rows.get('locked:cache07').spans.at(-1); look(span.from - 5, span.to + 5); return under(NAMES + 300, AXIS + 10); })()")
+        self.assertEqual("hits" in found, browser.value("rows.get('locked:cache07').spans.at(-1).of === 100"))
         self.assertRegex(found, r"\Alocked:cache07\nnode [1-4], by ci-[0-9]+\n[a-z ]+[^\n]*, ticket [0-9]+\n20[^\n]*, for [0-9.]+ (s|min)")
         browser.key("?")
         if os.environ.get("FARM_PICTURE"):
