@@ -9,7 +9,7 @@ import time
 from typing import Sequence
 
 from agent.faults import FarmFault, UsageFault, show, tell
-from agent.history.events import Event, event_of, slot_of
+from agent.history.events import STEPS, Event, event_of, slot_of
 from agent.service import client
 from agent.service.operators import HistoryRequest, Lease, Past, Usual, Waiting, Why, WhyRequest
 from agent.words import WANTED
@@ -54,7 +54,7 @@ def words_of(event: Event) -> str:
     by = f"by {event.who}" if event.who else ""
     waited = f"waited {event.waited:.1f} s" if event.waited is not None and event.kind != "commit" else ""
     held = f"held {event.held:.1f} s" if event.held is not None else ""
-    hits = ", ".join(f"{slot} {hits_words(found)}" if len(event.hits) > 1 else hits_words(found) for slot, found in event.hits.items())
+    hits = ", ".join(f"{name} {hits_words(found)}" if name == STEPS or len(event.hits) > 1 else hits_words(found) for name, found in event.hits.items())
     return " ".join(filter(None, (clock(event.at), where, event.kind, folders, ticket, by, waited, held, hits)))
 
 

@@ -15,6 +15,7 @@ WORD = re.compile(r"[!-~]+")
 WHO = re.compile(r"[!-~]{1,64}")
 ENDS = ("commit", "release", "fence", "withdraw", "lost")  # of a lease
 KINDS = ("ask", "wait", "deny", "leave", "grant", "begin", *ENDS, "prune", "retire")
+STEPS = "steps"  # in the place of a slot, of hits: how many of a build's steps were cached
 FOLDERS_MOST, FOLDER_MOST = 16, 256  # of one event, and characters of one: more are cut
 GREATEST = 2**53  # a number that every reader of JSON takes as it is
 
@@ -33,7 +34,7 @@ class Event(NamedTuple):
     versions: dict[str, tuple[int, int | None, int | None]] = {}  # of a slot: the number, files and bytes of its new version
     waited: float | None = None  # seconds: from the ask to the grant, or until nobody wanted it any more; of a begin from the caller's wish on
     held: float | None = None  # seconds from the grant to this end of it
-    hits: dict[str, tuple[int, int]] = {}  # of a slot's ccache: how much it had of what the command asked for
+    hits: dict[str, tuple[int, int]] = {}  # of a slot's ccache, or of `steps`: how much was there, of how much
 
     def is_of(self, folder: str) -> bool:
         """Whether it is of a folder, or of one slot."""

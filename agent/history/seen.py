@@ -13,7 +13,7 @@ from typing import Callable, Iterable, Iterator, TypeVar
 
 from agent.filters.lines import Answer
 from agent.history import hints
-from agent.history.events import ENDS, GREATEST, Event, cut, cut_all, slot_name
+from agent.history.events import ENDS, GREATEST, STEPS, Event, cut, cut_all, slot_name
 from agent.history.kept import History
 from agent.service import operators
 
@@ -303,7 +303,7 @@ class Seen:
             if told.name == "keeps" and not lease.sizes:
                 lease.sizes = {slot: size for slot, size in told.sizes.items() if cut(slot) in lease.folders}
             if told.name == "hits" and not lease.hits:
-                lease.hits = {cut(slot): (had, of) for slot, (had, of) in told.sizes.items() if cut(slot) in lease.folders and had <= of}
+                lease.hits = {cut(slot): (had, of) for slot, (had, of) in told.sizes.items() if (slot == STEPS or cut(slot) in lease.folders) and had <= of}
             if told.name == "begun" and not lease.has_begun:
                 lease.has_begun, lease.who = True, told.who
                 self._add(Event("begin", node=told.node, ticket=told.ticket, ask=lease.ask, folders=lease.folders, who=told.who, waited=told.waited))

@@ -16,6 +16,7 @@ from agent.history.events import FOLDER_MOST, Event, cut, event_of, line_of
 from agent.history.kept import History
 from agent.history.told import past_of, usual
 from agent.runs.hits import Counts, counts, since
+from agent.runs.progress import Progress, heard
 from agent.service.operators import HistoryRequest, Status, Waiting
 from agent.words import who_of
 
@@ -278,6 +279,28 @@ class Hits(support.RoomTest):
             self.assertIsNone(counts(self.path("2")))
         with mock.patch.dict("os.environ", {"PATH": "/nowhere"}):
             self.assertEqual([counts(self.path(name)) for name in ("1", "2")], [Counts(0, 0), None])
+
+    def test_steps(self) -> None:
+        """What a build says goes on unchanged, and its steps are counted, in whatever pieces it comes; also where nobody reads it."""
+        said = (
+            "#1 [internal] load build definition from Dockerfile\n#1 DONE 0.0s\n\n#4 [linux/amd64 base 1/3] FROM box\n#4 CACHED\n\n#5 [base 2/3] RUN true\n#5 CACHED\r\n"
+            "#6 [base 3/3] RUN echo '#7 CACHED'\n#6 0.1 #7 CACHED\n#6 DONE 0.2s\n#8 [stage-1 1/1] COPY --from=base /x /x\n#8 CACHED\n#9 exporting\n"
+        )
+        for size in (1, 7, 4096):
+            progress, (source, to) = Progress(), os.pipe()
+            with heard([0, 1, to], progress.hear, lambda: False) as streams:
+                for at in range(0, len(said), size):
+                    os.write(streams[2], said[at : at + size].encode())
+            os.close(to)
+            with open(source, "rb") as file:
+                self.assertEqual((file.read().decode(), progress.counts()), (said, Counts(2, 3)))
+        source, to = os.pipe()
+        os.close(source)
+        with heard([0, 1, to], progress.hear, lambda: True) as streams, self.assertRaises(BrokenPipeError):
+            while True:
+                os.write(streams[2], b"x" * 1000)
+        os.close(to)
+        self.assertIsNone(Progress().counts())
 
     def test_since(self) -> None:
         rows = [((0, 0), (3, 4), (3, 4)), ((3, 4), (5, 9), (2, 5)), ((3, 4), (3, 4), None), ((3, 4), (0, 1), None), ((3, 4), (9, 5), None), (None, (1, 1), None), ((1, 1), None, None)]
