@@ -1,7 +1,8 @@
 """Requests and what is told, as a socket carries them: one line of JSON each, which names its kind.
 
 Processes of two versions talk so while a machine is upgraded: what a newer one tells beside what is known here is left out, and what an older
-one doesn't tell yet has its default. Of a request nothing is left out, since it would be done otherwise than it was meant.
+one doesn't tell yet has its default; what has its default isn't told, so that an older one needn't know it. Of a request nothing that is unknown
+is left out, since it would be done otherwise than it was meant.
 
 Owes the filters nothing: a line that is none is refused before anything is done.
 """
@@ -21,16 +22,17 @@ class BadRequest(ValueError):
 
 def written(value: object) -> str:
     """A value as JSON, without a line's end."""
-    return json.dumps({"kind": type(value).__name__} | plain(value))
+    return json.dumps({"kind": type(value).__name__} | plain(value, is_whole=False))
 
 
-def plain(value: Any) -> Any:
-    """A value as JSON has it: each named tuple as an object."""
+def plain(value: Any, is_whole: bool = True) -> Any:
+    """A value as JSON has it: each named tuple as an object, with what has its default where it is to be whole."""
     if hasattr(value, "_fields"):
-        return {name: plain(each) for name, each in zip(value._fields, value)}
+        told = zip(value._fields, value)
+        return {name: plain(each, is_whole) for name, each in told if is_whole or name not in value._field_defaults or value._field_defaults[name] != each}
     if isinstance(value, dict):
-        return {key: plain(each) for key, each in value.items()}
-    return [plain(each) for each in value] if isinstance(value, tuple) else value
+        return {key: plain(each, is_whole) for key, each in value.items()}
+    return [plain(each, is_whole) for each in value] if isinstance(value, tuple) else value
 
 
 def read(text: str | bytes, *, is_told: bool = False) -> object:

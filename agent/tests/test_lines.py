@@ -18,7 +18,7 @@ from agent.faults import FarmFault, LifeOver, Missing
 from agent.filters.lines import Answer, Filter, FilterGone, Pauses, Talk, line_of
 from agent.service import client, sockets
 from agent.service.carried import BadRequest, read, written
-from agent.service.operators import Status, StatusRequest
+from agent.service.operators import Status, StatusRequest, Version
 from agent.service.requests import StoreRequest
 from agent.service.sockets import Connection, Service
 
@@ -228,6 +228,9 @@ class Sockets(support.RoomTest):
                 except FarmFault as fault:
                     self.assertIn(said or "none", str(fault))
                 service.close()
+        version = Version(version=1, ticket=2, digest="d", files=3)
+        self.assertEqual(json.loads(written(version)), {"kind": "Version", "version": 1, "ticket": 2, "digest": "d", "files": 3})
+        self.assertEqual(read(written(version), is_told=True), version)
         with self.assertRaisesRegex(BadRequest, "StatusRequest has no colour"):
             read(json.dumps({"kind": "StatusRequest", "last": 1, "colour": 1}))
 

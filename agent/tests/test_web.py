@@ -51,6 +51,7 @@ def events(folders: int, count: int, now: float) -> list[Event]:
         how = "withdraw" if last == "fence" else last
         whole = Event("ask", at=at - waited, node=turn % 4 + 1, ask=turn, folders=(folder,))
         made += [whole, whole._replace(kind="grant", at=at, ticket=turn + 1, waited=waited), whole._replace(kind="begin", at=at, ticket=turn + 1, who=f"ci-{turn}")]
+        made += [whole._replace(kind="leave", at=at + held, node=2, ask=turn, who="impatient", waited=held * 0.7)] if turn % 12 == 5 else []
         made.append(whole._replace(
             kind=how, at=at + held, ticket=turn + 1, who=f"ci-{turn}", waited=waited, held=held,
             versions={folder: (turn // folders + 1, 40 + turn, 1_000_000 + 4000 * turn)} if how == "commit" else {},
