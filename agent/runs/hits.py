@@ -6,8 +6,8 @@ waited for, or taken as settings.
 from __future__ import annotations
 
 import os
+import re
 import shutil
-import stat
 import subprocess
 from typing import Iterator, NamedTuple
 
@@ -15,6 +15,7 @@ DIGITS = "0123456789abcdef"
 FOUND = ("direct_cache_hit", "preprocessed_cache_hit")
 MISSED = "cache_miss"
 LONGEST = 5.0  # seconds
+NUMBERS = re.compile(rb"[0-9\n]+")  # what ccache writes into its counters
 
 
 class Counts(NamedTuple):
@@ -24,32 +25,30 @@ class Counts(NamedTuple):
     of: int
 
 
-def _stats(path: str) -> Iterator[int]:
-    """The modes of the files in which ccache counts; none in any other folder."""
+def _counters(path: str) -> Iterator[bool]:
+    """Each place where ccache counts and something stands: whether that are counters of it."""
     for first in DIGITS:
-        if not _is_folder(f"{path}/{first}"):
-            continue
-        for place in (f"{path}/{first}", *(f"{path}/{first}/{second}" for second in DIGITS)):
-            try:
-                yield os.lstat(f"{place}/stats").st_mode
-            except OSError:
-                pass
+        if os.path.isdir(f"{path}/{first}"):
+            for place in (f"{path}/{first}", *(f"{path}/{first}/{second}" for second in DIGITS)):
+                if os.path.lexists(f"{place}/stats"):
+                    yield _are_numbers(f"{place}/stats")
 
 
-def _is_folder(path: str) -> bool:
+def _are_numbers(path: str) -> bool:
     try:
-        return stat.S_ISDIR(os.lstat(path).st_mode)
+        with open(os.open(path, os.O_RDONLY | os.O_NOFOLLOW | os.O_NONBLOCK | os.O_CLOEXEC), "rb") as file:
+            return NUMBERS.fullmatch(file.read(1 << 12)) is not None
     except OSError:
         return False
 
 
 def counts(path: str) -> Counts | None:
     """What ccache has counted in a folder: nothing where it isn't ccache's; none where that can't be known."""
-    modes = list(_stats(path))
-    if not modes:
+    found = list(_counters(path))
+    if not found:
         return Counts(0, 0)
     tool = shutil.which("ccache")
-    if not tool or not all(map(stat.S_ISREG, modes)):
+    if not tool or not all(found):
         return None
     env = {"CCACHE_DIR": path, "CCACHE_CONFIGPATH": os.devnull, "HOME": "/", "PATH": os.environ.get("PATH", os.defpath)}
     try:

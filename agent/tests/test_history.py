@@ -243,12 +243,14 @@ class Believes(support.RoomTest):
 
 CCACHE = """#!/bin/sh
 echo "$* $CCACHE_DIR $CCACHE_CONFIGPATH" >>%s
-cat $CCACHE_DIR/*/stats $CCACHE_DIR/*/*/stats 2>/dev/null || true
+set -- $(cat $CCACHE_DIR/*/stats $CCACHE_DIR/*/*/stats 2>/dev/null)
+printf 'direct_cache_hit\\t%%s\\npreprocessed_cache_hit\\t%%s\\ncache_miss\\t%%s\\nstats_updated_timestamp\\t7\\n' $1 $2 $3
 """
 
 
 def told_hits(hits: int, preprocessed: int, missed: int) -> str:
-    return f"direct_cache_hit\t{hits}\npreprocessed_cache_hit\t{preprocessed}\ncache_miss\t{missed}\nstats_updated_timestamp\t7\n"
+    """The counters of the stand-in."""
+    return f"{hits}\n{preprocessed}\n{missed}\n"
 
 
 class Hits(support.RoomTest):
@@ -261,7 +263,7 @@ class Hits(support.RoomTest):
     def test_counts(self) -> None:
         files: list[tuple[dict[str, str], Counts | None, bool]] = [
             ({}, Counts(0, 0), False), ({"0/x": "1", "stats": told_hits(1, 1, 1), "config": ""}, Counts(0, 0), False), ({"0/stats": told_hits(5, 2, 3)}, Counts(7, 10), True),
-            ({"f/a/stats": told_hits(0, 0, 3)}, Counts(0, 3), True), ({"0/stats": "1\n2\n"}, None, True), ({"0/stats": told_hits(1, 1, 1).replace("1", "x")}, None, True),
+            ({"f/a/stats": told_hits(0, 0, 3)}, Counts(0, 3), True), ({"0/stats": "1\n2\n"}, None, True), ({"0/stats": "of a program\n"}, None, False), ({"0/stats": "", "1/stats": "1\n1\n1\n"}, None, False),
         ]
         with mock.patch.dict("os.environ", {"PATH": f"{self.path('bin')}:{os.environ['PATH']}"}):
             for number, (texts, wanted, is_called) in enumerate(files):
