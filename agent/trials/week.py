@@ -5,7 +5,8 @@ usage: agent/trials/week.py [--seconds S] [--seed N] [--at-once N]
 
 At the end each of the last versions is read back whole, what the stores had was bounded throughout, and the history, which is followed as the
 page does, has each version and each end of a lease once, as the commands were told it; its files are bounded, and have the last of it. What
-agents count, /metrics, and the page in a browser agree with it. The status is 1 where one of these isn't so.
+agents count, /metrics, and the page in a browser, whose picture is left in /tmp/week.png, agree with it. The status is 1 where one of these
+isn't so.
 """
 from __future__ import annotations
 
@@ -28,6 +29,7 @@ sys.path.insert(0, os.path.dirname(os.path.dirname(os.path.dirname(os.path.abspa
 
 from agent.commands.ask import counted  # noqa: E402
 from agent.counts import Sample  # noqa: E402
+from agent.faults import FarmFault  # noqa: E402
 from agent.history.events import ENDS, Event, event_of, slot_name  # noqa: E402
 from agent.history.kept import FILE_MOST, FILES  # noqa: E402
 from agent.service import client  # noqa: E402
@@ -81,7 +83,12 @@ class Week:
             request = RunRequest(
                 command=("sh", "-c", WORK % DATA), folders=(f"{folder}=f",), cwd=room, env=dict(os.environ), umask=0o022, who=f"week-{place}",
             )
-            self.take(client.ask(path, request, shows=False))
+            try:
+                self.take(client.ask(path, request, shows=False))
+            except FarmFault as fault:
+                with self.lock:
+                    self.wrong.append(f"node {node} doesn't answer: {fault}")
+                return
 
     def take(self, asked: client.Asked) -> None:
         said = [found[1] or "all_newer" for text in asked.said if (found := ENDED.match(text))]
@@ -222,7 +229,7 @@ class Week:
             browser.open(url)
             browser.wait("told && last > 0 && rows.size > 0")
             found = browser.value(SPANS)
-            browser.picture(f"{tempfile.gettempdir()}/week.png")
+            browser.picture("/tmp/week.png")
         finally:
             browser.close()
         newest = seen_of([event for line in self.past(HistoryRequest(after=0)).lines if (event := event_of(line))])
