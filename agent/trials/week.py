@@ -11,6 +11,7 @@ isn't so.
 from __future__ import annotations
 
 import argparse
+import hashlib
 import json
 import os
 import random
@@ -40,7 +41,9 @@ from agent.trials.farms import PYTHON_FARM, OverRedis  # noqa: E402
 
 NODES, FOLDERS, KEEP, EVERY = 3, 12, 3, 5  # seconds between two runs of gc
 DATA = 100_000  # bytes of a version, which don't pack
-WORK = "cat f/data 2>/dev/null | sha256sum | cmp -s - f/sum || [ ! -e f/sum ] || exit 9; head -c %d /dev/urandom >f/data; sha256sum <f/data >f/sum"
+# One file has both, since a merge takes each path of another command.
+WORK = f"""[ ! -e f/data ] || [ "$(head -c {DATA} f/data | sha256sum | head -c 64)" = "$(tail -c 64 f/data)" ] || exit 9
+head -c {DATA} /dev/urandom >new; (cat new; sha256sum <new | head -c 64) >f/data"""
 ENDED = re.compile(r"(committed|fenced|merged|lost) |[^ ]+ has it all in version")  # the last: others' edits of each path are newer
 GREATEST = 3 * FOLDERS * (KEEP + 2 * NODES) * DATA  # bytes of a store: what is kept, and what is made between two runs, thrice
 
@@ -81,7 +84,7 @@ class Week:
         while time.monotonic() < self.end:
             folder = f"{dice.choice(('locked', 'locked', 'merged'))}:c{dice.randrange(FOLDERS)}"
             request = RunRequest(
-                command=("sh", "-c", WORK % DATA), folders=(f"{folder}=f",), cwd=room, env=dict(os.environ), umask=0o022, who=f"week-{place}",
+                command=("sh", "-c", WORK), folders=(f"{folder}=f",), cwd=room, env=dict(os.environ), umask=0o022, who=f"week-{place}",
             )
             try:
                 self.take(client.ask(path, request, shows=False))
@@ -153,7 +156,7 @@ class Week:
             for number in range(max(1, folder.version - KEEP + 1), folder.version + 1):
                 to = f"{self.farm.room}/got"
                 done = subprocess.run([*PYTHON_FARM, "get", "--home", self.farm.home(None), f"{folder.slot}@{number}", to], capture_output=True, text=True)
-                if done.returncode or not {"data", "sum"} <= set(os.listdir(to)):
+                if done.returncode or not is_whole(f"{to}/data"):
                     self.wrong.append(f"{folder.slot} version {number} can't be read back: {done.stderr}")
                 shutil.rmtree(to, ignore_errors=True)
 
@@ -274,6 +277,12 @@ def seen_of(events: list[Event]) -> dict[str, Seen]:
                 ends[slot, event.ticket] = event.kind
                 versions.setdefault(slot, []).extend(event.versions[slot][:1] if slot in event.versions else ())
     return {slot: Seen(tuple(found), dict(Counter(how for (of, _), how in ends.items() if of == slot))) for slot, found in versions.items()}
+
+
+def is_whole(path: str) -> bool:
+    with open(path, "rb") as file:
+        data = file.read()
+    return hashlib.sha256(data[:DATA]).hexdigest().encode() == data[DATA:]
 
 
 def values(samples: tuple[Sample, ...], name: str) -> dict[str, float]:
