@@ -10,12 +10,16 @@ from typing import Any, Callable
 from unittest import mock
 
 from agent.commands.run import own_word
+from agent.counts import Counts
 from agent.filters.lines import Answer
+from agent.filters.measured import Measured
 from agent.history import hints, seen
 from agent.history.events import FOLDER_MOST, Event, cut, event_of, line_of
 from agent.history.kept import History
 from agent.history.told import past_of, usual
-from agent.runs.hits import Counts, counts, since
+from agent.logs import SILENT
+from agent.runs import hits
+from agent.runs.hits import counts, since
 from agent.runs.progress import Progress, heard
 from agent.service.operators import HistoryRequest, Status, Waiting
 from agent.words import who_of
@@ -261,9 +265,9 @@ class Hits(support.RoomTest):
         os.chmod(self.write("bin/ccache", CCACHE % self.path("calls")), 0o755)
 
     def test_counts(self) -> None:
-        files: list[tuple[dict[str, str], Counts | None, bool]] = [
-            ({}, Counts(0, 0), False), ({"0/x": "1", "stats": told_hits(1, 1, 1), "config": ""}, Counts(0, 0), False), ({"0/stats": told_hits(5, 2, 3)}, Counts(7, 10), True),
-            ({"f/a/stats": told_hits(0, 0, 3)}, Counts(0, 3), True), ({"0/stats": "1\n2\n"}, None, True), ({"0/stats": "of a program\n"}, None, False), ({"0/stats": "", "1/stats": "1\n1\n1\n"}, None, False),
+        files: list[tuple[dict[str, str], hits.Counts | None, bool]] = [
+            ({}, hits.Counts(0, 0), False), ({"0/x": "1", "stats": told_hits(1, 1, 1), "config": ""}, hits.Counts(0, 0), False), ({"0/stats": told_hits(5, 2, 3)}, hits.Counts(7, 10), True),
+            ({"f/a/stats": told_hits(0, 0, 3)}, hits.Counts(0, 3), True), ({"0/stats": "1\n2\n"}, None, True), ({"0/stats": "of a program\n"}, None, False), ({"0/stats": "", "1/stats": "1\n1\n1\n"}, None, False),
         ]
         with mock.patch.dict("os.environ", {"PATH": f"{self.path('bin')}:{os.environ['PATH']}"}):
             for number, (texts, wanted, is_called) in enumerate(files):
@@ -280,7 +284,7 @@ class Hits(support.RoomTest):
             self.write("bin/ccache", "#!/bin/sh\nexit 1\n")
             self.assertIsNone(counts(self.path("2")))
         with mock.patch.dict("os.environ", {"PATH": "/nowhere"}):
-            self.assertEqual([counts(self.path(name)) for name in ("1", "2")], [Counts(0, 0), None])
+            self.assertEqual([counts(self.path(name)) for name in ("1", "2")], [hits.Counts(0, 0), None])
 
     def test_steps(self) -> None:
         """What a build says goes on unchanged, and its steps are counted, in whatever pieces it comes; also where nobody reads it."""
@@ -295,7 +299,7 @@ class Hits(support.RoomTest):
                     os.write(streams[2], said[at : at + size].encode())
             os.close(to)
             with open(source, "rb") as file:
-                self.assertEqual((file.read().decode(), progress.counts()), (said, Counts(2, 3)))
+                self.assertEqual((file.read().decode(), progress.counts()), (said, hits.Counts(2, 3)))
         source, to = os.pipe()
         os.close(source)
         with heard([0, 1, to], progress.hear, lambda: True) as streams, self.assertRaises(BrokenPipeError):
@@ -307,7 +311,7 @@ class Hits(support.RoomTest):
     def test_since(self) -> None:
         rows = [((0, 0), (3, 4), (3, 4)), ((3, 4), (5, 9), (2, 5)), ((3, 4), (3, 4), None), ((3, 4), (0, 1), None), ((3, 4), (9, 5), None), (None, (1, 1), None), ((1, 1), None, None)]
         for before, after, wanted in rows:
-            self.assertEqual(since(before and Counts(*before), after and Counts(*after)), wanted, (before, after))
+            self.assertEqual(since(before and hits.Counts(*before), after and hits.Counts(*after)), wanted, (before, after))
 
 
 class Words(unittest.TestCase):
@@ -321,6 +325,14 @@ class Words(unittest.TestCase):
                 self.assertEqual(who_of(own_word()), who)
         with mock.patch.dict("os.environ", {}, clear=True):
             self.assertRegex(own_word(), r"\A[^@]+@[^@]+\Z")
+
+    def test_fenced_again(self) -> None:
+        """A commit that was fenced counts once, however often it comes."""
+        counts = Counts()
+        measured = Measured(counts, SILENT)
+        for note in ("fenced 7", "fenced 7", "fenced 8"):
+            measured.answered(Answer(note=note))
+        self.assertEqual([each.value for each in counts.told() if each.labels.get("how") == "fenced"], [2])
 
     def test_usual(self) -> None:
         rows: list[list[float | None]] = [[], [None], [1.0], [5.0, 1.0, None, 2.0], [1.0, 2.0]]
