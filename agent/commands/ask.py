@@ -113,12 +113,12 @@ def past_of(version: Version) -> str:
     """What the history has of a version, in words."""
     if version.at is None:
         return ""
-    from agent.commands.past import clock, size_words
+    from agent.commands.past import clock, hits_words, size_words
 
     where = f"node {version.node}" if version.node else "pruned"
     by = f"by {version.who}" if version.who else ""
     held = f"held {version.held:.1f} s" if version.held is not None else ""
-    return " ".join(filter(None, (clock(version.at), where, by, size_words(version.files, version.size), held)))
+    return " ".join(filter(None, (clock(version.at), where, by, size_words(version.files, version.size), held, hits_words(version.hits))))
 
 
 def log_of(args: argparse.Namespace, folder: str | None) -> LogRequest | LostRequest:

@@ -101,6 +101,7 @@ class Version(NamedTuple):
     who: str = ""
     files: int | None = None
     held: float | None = None  # seconds for which its lease lived
+    hits: tuple[int, ...] | None = None  # how much its ccache had, and of how much
 
 
 class FolderStatus(NamedTuple):

@@ -18,7 +18,7 @@ from agent.transport.redis_wire import Redis, RedisAway, RedisFault, Word
 
 HELD_MOST = 1 << 28  # bytes of all that is being made at once
 TALLIED_AT_ONCE = 1_000  # keys
-TURNS_MOST = 100  # times that what may be forgotten is looked for
+VAIN_MOST = 100  # looks one after the other behind which something was held before anything was forgotten
 
 # Redis keeps beside all keys when each was last given or found there: what is young isn't forgotten, since a commit of it may be under way.
 # What is being made stands in a hash beside, with its index, until its commit is answered, and nothing is forgotten while that has changed.
@@ -75,14 +75,16 @@ class RedisStore(SharedStore):
         owner, _, rest = field.partition(".")
         return bool(self.owner) and owner == self.owner and not rest.startswith(f"{self.own}.")
 
-    def _held(self) -> tuple[bytes, set[str], set[str]]:
-        """How often something was held, and the digests and chunks that are held."""
+    def _held(self) -> tuple[bytes, dict[str, bool], set[str]]:
+        """How often something was held, the digests that are, each with whether its index stands there, and the chunks that are held."""
         count, held = self.server.calls([("GET", f"{self.farm}:holds"), ("HGETALL", f"{self.farm}:held")], HELD_MOST)
-        digests, names = set[str](), set[str]()
+        digests, names = dict[str, bool](), set[str]()
         for field, index in zip(held[::2], held[1::2]) if isinstance(held, list) else ():
             with contextlib.suppress(FarmFault, AttributeError, TypeError):  # a hold that somebody spoilt
-                digests.add(field.decode(errors="replace").rpartition(".")[2])
+                digest = field.decode(errors="replace").rpartition(".")[2]
+                digests.setdefault(digest, False)
                 names.update(chunk_names(index))
+                digests[digest] |= hashlib.sha256(index).hexdigest() == digest
         return count if isinstance(count, bytes) else b"0", digests, names
 
     def _send(self, digest: str, index: bytes, away: Callable[[str], None] | None = None, base: bytes = b"") -> None:
@@ -140,21 +142,15 @@ class RedisStore(SharedStore):
             raise ChunksMissing(f"{self.name} gave no contents: {fault}") from None
 
     def forget(self, ask: Callable[[], set[str]], grace: float, tell: Callable[[str], None] = lambda digest: None) -> tuple[int, int]:
-        """Removes from Redis what is removed from a folder. Where something was held meanwhile it begins anew."""
-        indexes, chunks, told = 0, 0, set[str]()
+        """Removes from Redis what is removed from a folder."""
         try:
-            for _ in range(TURNS_MOST):
-                passing = _Passing(self, ask, grace)
-                is_done = passing.run()
-                indexes, chunks = indexes + passing.indexes, chunks + passing.chunks
-                for digest in passing.unreadable - told:
-                    tell(digest)
-                told |= passing.unreadable
-                if is_done:
-                    return indexes, chunks
+            passing = _Passing(self, ask, grace)
+            passing.run()
         except RedisFault as fault:
             raise FarmFault(f"the store over Redis forgot nothing more: {fault}") from None
-        raise FarmFault("commits came again and again, and the store over Redis forgot nothing more: begin it anew")
+        for digest in passing.unreadable:
+            tell(digest)
+        return passing.indexes, passing.chunks
 
     def tally(self) -> Tally:
         """Sizes are of the values: what Redis needs beside them it says itself (`INFO memory`)."""
@@ -189,39 +185,49 @@ class RedisStore(SharedStore):
 
 
 class _Passing:
-    """One going through what Redis has."""
+    """One going through what Redis has. It goes on while commits come: what nothing needs is forgotten only as long as nothing was held since it
+    was looked what is held and needed, and after that it is looked anew, which is short, since what was read of indexes stays right."""
 
     def __init__(self, store: RedisStore, ask: Callable[[], set[str]], grace: float) -> None:
-        self.store, self.grace = store, grace
-        self.count, digests, self.held = store._held()  # before it is asked: what is answered meanwhile is needed then
-        self.needed = ask() | digests
+        self.store, self.ask, self.grace = store, ask, grace
         self.indexes, self.chunks = 0, 0
+        self.needed, self.used = set[str](), set[str]()  # digests and chunks: those that something needed since it began
+        self.counted = set[str]()  # digests whose chunks are among the used ones
         self.unreadable = set[str]()
+        self._look()
 
-    def run(self) -> bool:
-        """Whether nothing was held meanwhile."""
+    def _look(self) -> None:
+        """What is held, and behind that what is needed, so that what is answered meanwhile is."""
+        self.count, digests, held = self.store._held()
+        self.needed |= self.ask() | digests.keys()
+        self.used |= held
+        self.counted |= {digest for digest, is_there in digests.items() if is_there}
+        self._use(self.needed)
+
+    def _use(self, digests: set[str]) -> None:
+        for digest in digests - self.counted:
+            index = self.store.index(digest)
+            if index is not None:
+                self.counted.add(digest)
+                self.unreadable.discard(digest)
+                self.used.update(chunk_names(index))
+            elif digest in self.needed:
+                self.unreadable.add(digest)
+
+    def run(self) -> None:
         store = self.store
         digests = store._kept("index")
-        unneeded = [digest for digest in digests if digest not in self.needed]
-        had = {digest: store.index(digest) for digest in unneeded}
-        gone = self._forget("index", unneeded)
-        if gone is None:
-            return False
-        used = set(self.held)
-        for digest in self.needed | (set(digests) - gone):
-            index = had.get(digest) or store.index(digest)
-            used.update(chunk_names(index or b""))
-            if index is None and digest in self.needed:
-                self.unreadable.add(digest)
-        free = {name for digest in gone for name in chunk_names(had[digest] or b"")} if self.unreadable else None
-        unused = [name for name in store._kept("chunk") if name not in used and (free is None or name in free)]
-        return self._forget("chunk", unused) is not None
+        had = {digest: store.index(digest) or b"" for digest in digests if digest not in self.needed}
+        gone = self._forget("index", list(had), lambda digest: digest not in self.needed)
+        self._use(set(digests) - gone)
+        free = {name for digest in gone for name in chunk_names(had[digest])}
+        self._forget("chunk", store._kept("chunk"), lambda name: name not in self.used and (not self.unreadable or name in free))
 
-    def _forget(self, kind: str, names: list[str]) -> set[str] | None:
-        """Those that went; none where something was held meanwhile."""
-        gone, store = set[str](), self.store
-        for at in range(0, len(names), AT_ONCE):
-            some = names[at : at + AT_ONCE]
+    def _forget(self, kind: str, names: list[str], may_go: Callable[[str], bool]) -> set[str]:
+        """Those that went."""
+        gone, store, at, vain = set[str](), self.store, 0, 0
+        while at < len(names):
+            some = [name for name in names[at : at + AT_ONCE] if may_go(name) and name not in gone]
             went = store.server.calls([
                 ("EVAL", FORGET, 3, store._name(kind, name), f"{store.farm}:given", f"{store.farm}:holds", int(self.grace), self.count)
                 for name in some
@@ -231,6 +237,11 @@ class _Passing:
                 self.indexes = len(gone)
             else:
                 self.chunks = len(gone)
-            if -1 in went:
-                return None
+            if -1 not in went:
+                at, vain = at + AT_ONCE, 0
+                continue
+            vain = vain + 1 if set(went) == {-1} else 0
+            if vain > VAIN_MOST:
+                raise FarmFault("commits came again and again, and the store over Redis forgot nothing more: begin it anew")
+            self._look()
         return gone
