@@ -15,7 +15,7 @@ import threading
 import time
 from typing import Callable, Iterator, Sequence, TypeVar
 
-from agent.faults import FarmFault
+from agent.faults import FarmFault, tell as tell_people
 from agent.logs import NOTICE, WARNING
 from agent.store.folder import ChunksMissing, Kept, Tally
 from agent.store.packing import Fresh
@@ -240,16 +240,21 @@ class BrokersStore(SharedStore):
         """Removes from each broker that answers what all of these need no more. Where one goes away meanwhile it begins anew."""
         for left in range(TRIES, 0, -1):
             try:
-                return forgotten(functools.partial(self._passing, ask, grace), tell)
+                gone = forgotten(functools.partial(self._passing, ask, grace), tell)
+                break
             except RedisFault as fault:
                 if left == 1 or not is_away(fault):
                     raise FarmFault(f"{self.name} forgot nothing more: {fault}") from None
-        raise AssertionError
+        for part in self.parts:
+            if part.why:
+                tell_people(f"{part.name} doesn't answer, so it forgets nothing now")
+        return gone
 
     def tally(self) -> Tally:
         """What stands in several brokers counts once, with the youngest's age."""
         indexes, chunks = dict[str, Kept](), dict[str, int]()
-        for tally in [part.tally() for part in self._there()]:
+        for part in self._there():
+            tally = part.tally()
             for digest, kept in tally.indexes.items():
                 before = indexes.get(digest, kept)
                 indexes[digest] = Kept(min(before.age, kept.age), max(before.size, kept.size))

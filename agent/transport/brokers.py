@@ -1,11 +1,12 @@
 """Lines over several brokers: each goes to all of them, and is taken from each.
 
 Owes the filters what any transport does (`transport`): nothing but an effort. A broker that is away, hangs or lies holds up no other one: each
-has threads and a queue of its own. The same line from another broker, moments later, isn't handed over again: the filters would bear it, but
-each answer to a repeat is repeated by the brokers too, which made seven lines of a lone command's filters out of one (docs/SPEED.md measures one broker).
+has threads and a queue of its own. The same line from another broker, moments later, isn't handed over again: the filters bear it, but over
+two brokers the coordinator's answered four lines a command so, and two without.
 """
 from __future__ import annotations
 
+import functools
 import queue
 import threading
 import time
@@ -53,7 +54,7 @@ class Brokers:
         """Who listens hears of each broker why it can't be reached, or that it can be."""
         self.links = [RedisTransport(server, farm) for server, _ in answering(urls)]
         for link in self.links:
-            link.reached = lambda why, where=link.server.where: reached(where, why)  # type: ignore[misc]
+            link.reached = functools.partial(reached, link.server.where)
         self.lock = threading.Lock()
         self.heard: dict[str, queue.Queue[str]] = {}  # of a receiver: what came
         self.passed: dict[int, tuple[float, set[int]]] = {}  # of a line: when it was handed over, and which brokers have brought it since

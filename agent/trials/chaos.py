@@ -79,7 +79,7 @@ class Chaos:
     def __init__(self, given: Given, room: str) -> None:
         self.given, self.room = given, room
         self.dice = random.Random(given.seed)
-        self.deck: tuple[str, ...] = DECK
+        self.deck: tuple[str, ...] = DECK + ("redis",) * (len(DECK) // 2 if given.brokers > 1 else 0)
         self.counts: Counter[str] = Counter()
         self.told: list[Told] = []
         self.clients: dict[str, subprocess.Popen[str]] = {}
@@ -244,8 +244,8 @@ class Chaos:
         if self.breaking.is_alive():
             return None
         self.turn = (self.turn + 1) % len(farm.ports)
-        how = self.dice.choice(["killed", "stopped"])
-        does = farm.kill_redis if how == "killed" else farm.hang_redis
+        does: Callable[[float, int], None]
+        how, does = self.dice.choice([("killed", farm.kill_redis), ("stopped", farm.hang_redis)])
         self.breaking = threading.Thread(target=does, args=(self.dice.uniform(1, 8), self.turn))
         self.breaking.start()
         return self.count(f"times that broker {self.turn + 1} was {how}")
