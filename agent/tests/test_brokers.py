@@ -181,8 +181,9 @@ class Contents(TwoBrokers):
                     self.assertEqual(reader.index(digest), index)
                     trees.extract(reader, index, self.path(f"out-{what}"))
                 self.assertEqual(self.read(f"out-{what}/f"), what * 1000)
-                with self.soon(what):
-                    self.kept(maker, self.tree(f"again {what}"))
+                with self.soon(what):  # it isn't waited for again and again
+                    for number in range(4):
+                        self.kept(maker, self.tree(f"again {what} {number}"))
                 back(self.servers[bad])
                 support.until(lambda: not any(part.why for part in maker.parts))
                 self.assertEqual([self.has(0, digest), self.has(1, digest)], [bad != 0, bad != 1])
@@ -278,10 +279,11 @@ class Contents(TwoBrokers):
             digest = store.publish(index)
         self.assertEqual([server.call("HLEN", "t:held") for server in self.servers], [1, 1])
         self.assertEqual(self.store("b").forget(set, -(10**9)), (0, 0))
-        self.servers[1].hang()
+        self.servers[1].kill()
         with self.soon("release"):
             store.release(digest)
-        self.servers[1].process.send_signal(signal.SIGCONT)
+        support.until(lambda: store.parts[1].why)
+        self.servers[1].start()
         support.until(lambda: not any(server.call("HLEN", "t:held") for server in self.servers))
 
 

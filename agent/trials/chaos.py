@@ -244,8 +244,8 @@ class Chaos:
         if self.breaking.is_alive():
             return None
         self.turn = (self.turn + 1) % len(farm.ports)
-        does: Callable[[float, int], None]
-        how, does = self.dice.choice([("killed", farm.kill_redis), ("stopped", farm.hang_redis)])
+        how = self.dice.choice(["killed", "stopped"])
+        does: Callable[[float, int], None] = farm.kill_redis if how == "killed" else farm.hang_redis
         self.breaking = threading.Thread(target=does, args=(self.dice.uniform(1, 8), self.turn))
         self.breaking.start()
         return self.count(f"times that broker {self.turn + 1} was {how}")
