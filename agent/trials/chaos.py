@@ -245,7 +245,7 @@ class Chaos:
             return None
         self.turn = (self.turn + 1) % len(farm.ports)
         how = self.dice.choice(["killed", "stopped"])
-        does: Callable[[float, int], None] = farm.kill_redis if how == "killed" else farm.hang_redis
+        does = farm.kill_redis if how == "killed" else farm.hang_redis
         self.breaking = threading.Thread(target=does, args=(self.dice.uniform(1, 8), self.turn))
         self.breaking.start()
         return self.count(f"times that broker {self.turn + 1} was {how}")

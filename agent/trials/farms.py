@@ -281,7 +281,7 @@ class OverRedis(Farm):
         time.sleep(pause)
         self.start_redis(number)
 
-    def hang_redis(self, pause: float, number: int) -> None:
+    def hang_redis(self, pause: float, number: int = 0) -> None:
         self.brokers[number].send_signal(signal.SIGSTOP)
         time.sleep(pause)
         self.brokers[number].send_signal(signal.SIGCONT)
