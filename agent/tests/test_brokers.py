@@ -252,6 +252,21 @@ class Contents(TwoBrokers):
         self.assertEqual(store.forget(lambda: {needed}, 3600)[0], 1)
         self.assertEqual(there(), [[False, True, False, True]] * 2)
 
+    def test_unread(self) -> None:
+        """While what is needed can be read nowhere, since a broker is away, the other one forgets no chunk, which may be of that."""
+        store = self.store("a")
+        _, old = self.kept(store, self.tree("a" * 1000))
+        self.servers[1].kill()
+        _, needed = self.kept(store, self.tree("b" * 1000))
+        self.servers[1].start()
+        self.servers[0].kill()
+        heard = list[str]()
+        self.assertEqual((self.store("b").forget(lambda: {needed}, -(10**9), heard.append), heard), ((1, 0), [needed]))
+        self.assertFalse(self.has(1, old))
+        self.servers[0].start()
+        self.assertGreater(self.store("c").forget(lambda: {needed}, -(10**9))[1], 0)
+        self.assertTrue(self.has(0, needed))
+
     def test_slow(self) -> None:
         """A broker that is slow gets a content while its commit goes on, and holds nothing in vain. Of one that is too far behind no more is wanted."""
         store, go_on, gives = self.store("a"), threading.Event(), brokers.Part.give
