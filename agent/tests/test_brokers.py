@@ -18,6 +18,7 @@ from agent.folders.index import make_whole
 from agent.store import brokers
 from agent.store.brokers import BrokersStore
 from agent.store.chunks import chunk_names
+from agent.store.redis import RedisStore
 from agent.transport.brokers import Brokers, answering
 from agent.transport.redis_wire import Redis
 
@@ -144,6 +145,10 @@ class Contents(TwoBrokers):
             return False
         return True
 
+    def let_go(self) -> None:
+        """Waits until nothing is held any more."""
+        support.until(lambda: not any(server.call("HLEN", "t:held") for server in self.servers), "something is held in vain")
+
     def kept(self, store: BrokersStore, tree: str, base: bytes = b"") -> tuple[bytes, str]:
         with store.making():
             index = make_whole(store, tree)
@@ -155,7 +160,7 @@ class Contents(TwoBrokers):
         store, other = self.store("a"), self.store("b")
         index, digest = self.kept(store, self.tree("text" * 1000))
         self.assertEqual([self.has(0, digest), self.has(1, digest)], [True, True])
-        support.until(lambda: not any(server.call("HLEN", "t:held") for server in self.servers))
+        self.let_go()
         trees.extract(other, index, self.path("out"))
         self.assertEqual(self.read("out/f"), "text" * 1000)
         self.assertTrue(store.keeps_well())
@@ -231,6 +236,7 @@ class Contents(TwoBrokers):
         """What one broker would keep, since it is held or young there, no broker forgets; one that is away is left out."""
         store = self.store("a")
         (_, held), (_, young), (_, old), (_, needed) = (self.kept(store, self.tree(name * 300_000)) for name in "hyon")
+        self.let_go()
         for server in self.servers:
             for key in server.call("KEYS", "t:[ic]*:*"):
                 server.call("ZADD", "t:given", 5, key)
@@ -251,11 +257,15 @@ class Contents(TwoBrokers):
         self.assertEqual(set(store.tally().indexes), {held, young, needed})
         self.assertEqual(store.forget(lambda: {needed}, 3600)[0], 1)
         self.assertEqual(there(), [[False, True, False, True]] * 2)
+        with mock.patch.object(RedisStore, "_young", return_value=set()):  # it was given there just now
+            self.assertEqual(store.forget(lambda: {needed}, 3600)[0], 0)
+        self.assertEqual(there(), [[False, False, False, True], [False, True, False, True]])
 
     def test_unread(self) -> None:
         """While what is needed can be read nowhere, since a broker is away, the other one forgets no chunk, which may be of that."""
         store = self.store("a")
         _, old = self.kept(store, self.tree("a" * 1000))
+        self.let_go()
         self.servers[1].kill()
         _, needed = self.kept(store, self.tree("b" * 1000))
         self.servers[1].start()
@@ -284,7 +294,9 @@ class Contents(TwoBrokers):
             self.assertEqual([self.has(server, each) for server in (0, 1) for each in (digest, other)], [True, True, False, False])
             go_on.set()
             support.until(lambda: self.has(1, digest))
-            support.until(lambda: not store.parts[1].behind and not any(server.call("HLEN", "t:held") for server in self.servers))
+            support.until(lambda: not store.parts[1].behind)
+            self.let_go()
+            self.assertFalse(self.has(1, other))
 
     def test_held(self) -> None:
         """What is under way is held by each broker that has it, in vain by none: also where one came too late, or was away."""
@@ -299,7 +311,7 @@ class Contents(TwoBrokers):
             store.release(digest)
         support.until(lambda: store.parts[1].why)
         self.servers[1].start()
-        support.until(lambda: not any(server.call("HLEN", "t:held") for server in self.servers))
+        self.let_go()
 
 
 @unittest.skipUnless(support.has("redis-server") and support.has("casync"), support.needs("redis-server or casync"))
