@@ -20,7 +20,7 @@ from agent.store.brokers import BrokersStore
 from agent.store.chunks import chunk_names
 from agent.store.redis import RedisStore
 from agent.transport.brokers import Brokers, answering
-from agent.transport.redis_wire import Redis
+from agent.transport.redis_wire import Redis, RedisFault
 
 from agent.tests import support
 
@@ -303,7 +303,12 @@ class Contents(TwoBrokers):
         store = self.store("a")
         with store.making():
             index = make_whole(store, self.tree("x" * 1000))
-            digest = store.publish(index)
+            with mock.patch.object(store.parts[1], "_send_chunks", side_effect=RedisFault("no")):
+                digest = store.publish(index)
+            support.until(lambda: [server.call("HLEN", "t:held") for server in self.servers] == [1, 0])
+            store.release(digest)
+            self.let_go()
+            self.assertEqual(store.publish(index), digest)
         self.assertEqual([server.call("HLEN", "t:held") for server in self.servers], [1, 1])
         self.assertEqual(self.store("b").forget(set, -(10**9)), (0, 0))
         self.servers[1].kill()
