@@ -68,6 +68,8 @@ def do_status(args: argparse.Namespace) -> int:
         show(f"node {node} was retired")
     if not told.leases and not told.waiting and not told.snapshots:
         show("nobody has or wants a folder")
+    for trouble in told.troubles:
+        show(trouble)
     return 0
 
 
@@ -155,7 +157,7 @@ def store_at(home: str, place: StorePlace) -> Store:
     from agent.transport.redis_wire import signed_in
 
     key = key_of(home)
-    return open_store(home, place.broker and signed_in(place.broker, key.password()), place.contents, key.names)
+    return open_store(home, [signed_in(each, key.password()) for each in (place.broker or "").split()], place.contents, key.names)
 
 
 def do_withdraw(args: argparse.Namespace) -> int:
