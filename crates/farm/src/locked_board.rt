@@ -1,5 +1,5 @@
 //! What lies under the lock of the board.
-ghost use Rattle.std.specs.Prelude.{◌≡◌, IfErr, IfOk, IfSome};
+ghost use Rattle.std.specs.Prelude.{◌≡◌, IfOk, IfSome, OnErr};
 ghost use Rattle.protocol.specs.Names.{tenure_wants};
 
 use events::{EventNote, EventRefusal, NodeNote, NodeRefusal};
@@ -123,7 +123,7 @@ impl LockedBoard {
     /// Ends an execution that leaves nothing. It uses its SHARED folders until the board has taken its end: so no tenure ends
     /// that an execution of its node still uses.
     pub(crate) fn give_up(&mut self, alloc: Global, running: Running) -> Result<(), FarmFault>
-        ensures { IfErr result (self.new.tenures ≡ self.old.tenures) }
+        ensures { OnErr result (self.new.tenures ≡ self.old.tenures) }
     {
         let node = running.node();
         let (running, wants) = with_wants(alloc, running)?;
@@ -146,7 +146,7 @@ impl LockedBoard {
         running: Running,
         lefts: Vec<Left>,
     ) -> Result<Finished, FarmFault>
-        ensures { IfErr result (self.new.tenures ≡ self.old.tenures) }
+        ensures { OnErr result (self.new.tenures ≡ self.old.tenures) }
     {
         let node = running.node();
         let (running, wants) = with_wants(alloc, running)?;
