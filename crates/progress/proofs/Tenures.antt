@@ -150,12 +150,12 @@ module _ (sha : List ℕ → Digest) where
   acts pool n x sends y fits (Gives_back g a b c d e) = still x y refl refl
   acts pool n x sends y fits (Begins wants g r place a b) = set_did x y place (Running wants g r) (Holding wants g r) refl refl a (λ ws t w. w) (λ f t. of_parts f (Holding wants g r) (parts_of f (Running wants g r) t))
   acts pool n x sends y fits (Finishes wants g r place news store a b c d e) = set_did x y place (Finished wants g news) (Running wants g r) refl refl a (λ ws t w. w) (λ f t. of_parts f (Running wants g r) (parts_of f (Finished wants g news) t))
-  acts pool n x sends y fits (Gives_up wants g r place (inl a) b) = set_did x y place (Over (how.Released g.ticket)) (Holding wants g r) refl refl a (λ ws t w. tt) (λ f t. absurd (over_plain f _ t))
-  acts pool n x sends y fits (Gives_up wants g r place (inr a) b) = set_did x y place (Over (how.Released g.ticket)) (Running wants g r) refl refl a (λ ws t w. tt) (λ f t. absurd (over_plain f _ t))
+  acts pool n x sends y fits (Gives_up wants g r place (inl a) b) = set_did x y place (Over (how.Released g.ticket)) (Holding wants g r) refl refl a (λ ws t w. tt) (λ f t. absurd (over_plain f (how.Released g.ticket) t))
+  acts pool n x sends y fits (Gives_up wants g r place (inr a) b) = set_did x y place (Over (how.Released g.ticket)) (Running wants g r) refl refl a (λ ws t w. tt) (λ f t. absurd (over_plain f (how.Released g.ticket) t))
   acts pool n x sends y fits (Sends_commit wants g place news a) = still x y refl refl
-  acts pool n x sends y fits (Learns wants g place news versions a b) = set_did x y place (Over (how.Committed g.ticket versions)) (Finished wants g news) refl refl b (λ ws t w. tt) (λ f t. absurd (over_plain f _ t))
-  acts pool n x sends y fits (Drops wants g place news a b) = set_did x y place (Over (how.Fenced g.ticket)) (Finished wants g news) refl refl b (λ ws t w. tt) (λ f t. absurd (over_plain f _ t))
-  acts pool n x sends y fits (Is_denied ask why wants tenure a b) = set_did x y ask.0 (Over (how.Denied why)) (Open wants tenure) refl refl b (λ ws t w. tt) (λ f t. absurd (over_plain f _ t))
+  acts pool n x sends y fits (Learns wants g place news versions a b) = set_did x y place (Over (how.Committed g.ticket versions)) (Finished wants g news) refl refl b (λ ws t w. tt) (λ f t. absurd (over_plain f (how.Committed g.ticket versions) t))
+  acts pool n x sends y fits (Drops wants g place news a b) = set_did x y place (Over (how.Fenced g.ticket)) (Finished wants g news) refl refl b (λ ws t w. tt) (λ f t. absurd (over_plain f (how.Fenced g.ticket) t))
+  acts pool n x sends y fits (Is_denied ask why wants tenure a b) = set_did x y ask.0 (Over (how.Denied why)) (Open wants tenure) refl refl b (λ ws t w. tt) (λ f t. absurd (over_plain f (how.Denied why) t))
   acts pool n x sends y fits (Is_recalled wants g place a b) = set_did x y place (Holding wants g true) (Holding wants g false) refl refl b (λ ws t w. w) (λ f t. of_parts f (Holding wants g false) (parts_of f (Holding wants g true) t))
   acts pool n x sends y fits (Is_recalled_running wants g place a b) = set_did x y place (Running wants g true) (Running wants g false) refl refl b (λ ws t w. w) (λ f t. of_parts f (Running wants g false) (parts_of f (Running wants g true) t))
   acts pool n x sends y fits (Stores c) = still x y refl refl
