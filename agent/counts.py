@@ -55,6 +55,11 @@ class Counts:
             self.away[what] = why
         return f"{what} fails: {why}" if why and not before else f"{what} works again" if before and not why else ""
 
+    def troubles(self, front: str) -> tuple[str, ...]:
+        """Those of what begins so that failed when they were asked last, in words."""
+        with self.lock:
+            return tuple(f"{what} fails: {why}" for what, why in sorted(self.away.items()) if why and what.startswith(front))
+
     @contextlib.contextmanager
     def timed(self, what: str, does: str, log: Callable[[str, int], None]) -> Iterator[None]:
         """A request to a store: how long it took, or that it failed."""

@@ -21,6 +21,7 @@ from agent.faults import BAD_DOCKERFILE, FENCED_BUILD, LOST, FarmFault, UsageFau
 from agent.filters.node import NodeAgent
 from agent.folders.shared import Tenure
 from agent.runs.caller import Caller, Patience
+from agent.runs.progress import Progress
 from agent.runs.run import Job, Placed, Run
 from agent.service.requests import BuildRequest, Built
 from agent.store.lasting import put_file
@@ -203,6 +204,7 @@ class Build:
             place=lambda slots, tenures: self._placed(plan, image, slots, tenures), home=self.builder if is_docker else None,
             skips_unchanged=is_docker, fenced_status=FENCED_BUILD, lost_status=LOST, of_shared=OF_SHARED, filled=filled, left=left,
             on_conflict=asked.on_conflict, tells_conflicts=asked.tells_conflicts, is_warm=asked.is_warm, who=who_of(asked.who),
+            progress=Progress() if is_docker else None,
         )
         return self._settled(job, image)
 

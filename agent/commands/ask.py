@@ -68,6 +68,8 @@ def do_status(args: argparse.Namespace) -> int:
         show(f"node {node} was retired")
     if not told.leases and not told.waiting and not told.snapshots:
         show("nobody has or wants a folder")
+    for trouble in told.troubles:
+        show(trouble)
     return 0
 
 
@@ -113,12 +115,12 @@ def past_of(version: Version) -> str:
     """What the history has of a version, in words."""
     if version.at is None:
         return ""
-    from agent.commands.past import clock, size_words
+    from agent.commands.past import clock, hits_words, size_words
 
     where = f"node {version.node}" if version.node else "pruned"
     by = f"by {version.who}" if version.who else ""
     held = f"held {version.held:.1f} s" if version.held is not None else ""
-    return " ".join(filter(None, (clock(version.at), where, by, size_words(version.files, version.size), held)))
+    return " ".join(filter(None, (clock(version.at), where, by, size_words(version.files, version.size), held, hits_words(version.hits))))
 
 
 def log_of(args: argparse.Namespace, folder: str | None) -> LogRequest | LostRequest:
@@ -155,7 +157,7 @@ def store_at(home: str, place: StorePlace) -> Store:
     from agent.transport.redis_wire import signed_in
 
     key = key_of(home)
-    return open_store(home, place.broker and signed_in(place.broker, key.password()), place.contents, key.names)
+    return open_store(home, [signed_in(each, key.password()) for each in (place.broker or "").split()], place.contents, key.names)
 
 
 def do_withdraw(args: argparse.Namespace) -> int:

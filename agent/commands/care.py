@@ -206,6 +206,22 @@ def _look_at_farm(home: str) -> Iterator[Finding]:
         yield Finding("a farm", f"none runs in {home}: farm run starts one, and farm up one that lasts", is_warning=True)
     for place in {client.told_at(each, StoreRequest(), StorePlace, shows=False) for each in (nodes or [path]) if client.is_there(each)}:
         yield _store(home, place)
+        yield from _brokers(home, place)
+
+
+def _brokers(home: str, place: StorePlace) -> Iterator[Finding]:
+    """Of several brokers each one."""
+    from agent.transport.keys import key_of
+    from agent.transport.redis_wire import Redis, signed_in
+
+    urls = (place.broker or "").split()
+    for url in urls if len(urls) > 1 else ():
+        server = Redis(signed_in(url, key_of(home).password()), must_answer=False)
+        try:
+            server.greet()
+            yield Finding(f"the broker {server.where}")
+        except FarmFault as fault:
+            yield Finding(f"the broker {server.where}", f"{fault}: start it, the others go on meanwhile", is_warning=True)
 
 
 def _store(home: str, place: StorePlace) -> Finding:

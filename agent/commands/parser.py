@@ -189,8 +189,10 @@ def _serving_words(verbs: Any) -> None:
             "--lease-timeout", type=seconds, metavar="SECONDS", help="withdraws the leases of a node that wasn't heard for so long"
         )
     for made in (coordinator, one):
-        broker = os.environ.get("FARM_BROKER")
-        made.add_argument("--broker", default=broker, required=not broker, metavar="redis://..", help="Redis (or FARM_BROKER, which others don't see)")
+        made.add_argument(
+            "--broker", action="append", required=not os.environ.get("FARM_BROKER"), metavar="redis://..",
+            help="Redis (or FARM_BROKER, which others don't see). Of several, each named so, or with blanks between them, one is enough",
+        )
 
 
 def _forgetting_words(made: argparse.ArgumentParser) -> None:

@@ -6,9 +6,10 @@ from __future__ import annotations
 
 import argparse
 import time
+from typing import Sequence
 
 from agent.faults import FarmFault, UsageFault, show, tell
-from agent.history.events import Event, event_of, slot_of
+from agent.history.events import STEPS, Event, event_of, slot_of
 from agent.service import client
 from agent.service.operators import HistoryRequest, Lease, Past, Usual, Waiting, Why, WhyRequest
 from agent.words import WANTED
@@ -20,6 +21,10 @@ def clock(at: float) -> str:
 
 def size_words(files: int | None, size: int | None) -> str:
     return "" if files is None or size is None else f"{files} file{'s' * (files != 1)} {size} bytes"
+
+
+def hits_words(hits: Sequence[int] | None) -> str:
+    return f"{hits[0]} of {hits[1]} hits" if hits else ""
 
 
 def check_folder(folder: str) -> str:
@@ -49,7 +54,8 @@ def words_of(event: Event) -> str:
     by = f"by {event.who}" if event.who else ""
     waited = f"waited {event.waited:.1f} s" if event.waited is not None and event.kind != "commit" else ""
     held = f"held {event.held:.1f} s" if event.held is not None else ""
-    return " ".join(filter(None, (clock(event.at), where, event.kind, folders, ticket, by, waited, held)))
+    hits = ", ".join(f"{name} {hits_words(found)}" if name == STEPS or len(event.hits) > 1 else hits_words(found) for name, found in event.hits.items())
+    return " ".join(filter(None, (clock(event.at), where, event.kind, folders, ticket, by, waited, held, hits)))
 
 
 def _version(event: Event, slot: str) -> str:

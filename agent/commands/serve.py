@@ -5,6 +5,7 @@ Owes the filters nothing: `service` keeps what is owed.
 from __future__ import annotations
 
 import argparse
+import os
 
 from agent.faults import UsageFault
 
@@ -18,12 +19,19 @@ def _serve(args: argparse.Namespace, coordinator: bool, nodes: list[int]) -> int
     if args.keep is not None and args.keep < 1:
         raise UsageFault("the last version of a folder is always kept: --keep is at least 1")
     return serve(Wanted(
-        home=args.home, coordinator=coordinator, nodes=tuple(nodes), most=args.nodes, broker=getattr(args, "broker", None),
+        home=args.home, coordinator=coordinator, nodes=tuple(nodes), most=args.nodes, brokers=_brokers(args),
         contents=args.contents, isolation=getattr(args, "isolation", None), lease_timeout=getattr(args, "lease_timeout", None), most_asks=getattr(args, "most_asks", 1), verbose=args.verbose,
         while_used=getattr(args, "while_used", False), group=args.group,
         restored=getattr(args, "restored", False), log_json=args.log_json,
         gc=Rule(keep=args.keep or 1, grace=args.grace, young=86_400 * (args.keep_days or 0), most=args.most_bytes, every=args.gc_every),
     ))
+
+
+def _brokers(args: argparse.Namespace) -> tuple[str, ...]:
+    """Each once, in order: what is named here, else what the environment names. A farm of one machine has none."""
+    if not hasattr(args, "broker"):
+        return ()
+    return tuple(dict.fromkeys(" ".join(args.broker or [os.environ.get("FARM_BROKER", "")]).split()))
 
 
 def do_up(args: argparse.Namespace) -> int:

@@ -278,7 +278,7 @@ class CoordinatorAgent:
             gone=tuple(int(words[0]) for words in of("gone")), retired=tuple(words[0] for words in of("retired")),
             tickets=max((int(words[0]) for words in of("tickets")), default=0), heard={str(node): at for node, at in list(self.heard.items())},
             now=time.time(), snapshots=self.snapshots.present(), versions=sum(int(words[1].partition(":")[0]) for words in of("last")),
-            waited=self.measured.oldest({tuple(words[1:4]) for words in of("parked")}), record=self._record_size(),
+            waited=self.measured.oldest({tuple(words[1:4]) for words in of("parked")}), record=self._record_size(), troubles=self.setup.counts.troubles("the broker redis"),
         )
 
     def _record_size(self) -> int:

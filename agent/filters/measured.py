@@ -25,6 +25,7 @@ class Measured:
         self.lock = threading.Lock()
         self.waiting: dict[tuple[str, ...], float] = {}  # of a node's ask: when it was first heard that it waits
         self.held: dict[str, float] = {}  # of a ticket: when it was granted
+        self.fenced: dict[str, float] = {}  # tickets whose commit was fenced: it comes again until its node hears that
         for how in ENDS:
             counts.add("leases_over_total", 0, how=how)
 
@@ -67,6 +68,10 @@ class Measured:
 
     def _over(self, how: str, ticket: str) -> None:
         with self.lock:
+            if how == "fenced":
+                if ticket in self.fenced:
+                    return
+                put(self.fenced, ticket)
             since = self.held.pop(ticket, None)
         self.counts.add("leases_over_total", how=how)
         if since is not None:

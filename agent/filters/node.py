@@ -205,6 +205,11 @@ class NodeAgent:
         if sizes:
             self.tell(past.keeps(self.node, ticket, sizes))
 
+    def tell_hits(self, ticket: int, hits: dict[str, tuple[int, int]]) -> None:
+        """Tells the coordinator's agent what caches had of what the command under this lease asked for."""
+        if hits:
+            self.tell(past.hits(self.node, ticket, hits))
+
     def wake(self) -> None:
         with self.changed:
             self.events += 1

@@ -14,7 +14,8 @@ from agent.words import lined
 WORD = re.compile(r"[!-~]+")
 WHO = re.compile(r"[!-~]{1,64}")
 ENDS = ("commit", "release", "fence", "withdraw", "lost")  # of a lease
-KINDS = ("ask", "wait", "deny", "grant", "begin", *ENDS, "prune", "retire")
+KINDS = ("ask", "wait", "deny", "leave", "grant", "begin", *ENDS, "prune", "retire")
+STEPS = "steps"  # in the place of a slot, of hits: how many of a build's steps were cached
 FOLDERS_MOST, FOLDER_MOST = 16, 256  # of one event, and characters of one: more are cut
 GREATEST = 2**53  # a number that every reader of JSON takes as it is
 
@@ -31,8 +32,9 @@ class Event(NamedTuple):
     folders: tuple[str, ...] = ()  # slots of a lease, or the folders of an ask; `ro=` before one that is only read
     who: str = ""
     versions: dict[str, tuple[int, int | None, int | None]] = {}  # of a slot: the number, files and bytes of its new version
-    waited: float | None = None  # seconds: from the ask to the grant, of a begin from the caller's wish to the beginning
+    waited: float | None = None  # seconds: from the ask to the grant, or until nobody wanted it any more; of a begin from the caller's wish on
     held: float | None = None  # seconds from the grant to this end of it
+    hits: dict[str, tuple[int, int]] = {}  # of a slot's ccache, or of `steps`: how much was there, of how much
 
     def is_of(self, folder: str) -> bool:
         """Whether it is of a folder, or of one slot."""
@@ -68,7 +70,7 @@ def line_of(event: Event) -> str:
 
 
 def event_of(line: str) -> Event | None:
-    """The event that a line spells; none, where it spells none, or one with what no event has."""
+    """The event that a line spells; none, where it spells none. What a newer agent tells beside is left out."""
     try:
         found = json.loads(line)
         return _made(found) if isinstance(found, dict) and is_event(found) else None
@@ -77,14 +79,15 @@ def event_of(line: str) -> Event | None:
 
 
 def _made(found: dict[str, Any]) -> Event:
-    versions = {slot: tuple(some) for slot, some in found.get("versions", {}).items()}
-    whole: dict[str, Any] = found | {"folders": tuple(found.get("folders", ())), "versions": versions}
+    versions, hits = ({slot: tuple(some) for slot, some in found.get(name, {}).items()} for name in ("versions", "hits"))
+    known = {name: value for name, value in found.items() if name in SHAPES}
+    whole: dict[str, Any] = known | {"folders": tuple(found.get("folders", ())), "versions": versions, "hits": hits}
     return Event(**whole)
 
 
 def is_event(found: dict[str, Any]) -> bool:
     """Whether each value is one that an event may have."""
-    return found.get("kind") in KINDS and _is_time(found.get("at")) and all(name in SHAPES and SHAPES[name](value) for name, value in found.items())
+    return found.get("kind") in KINDS and _is_time(found.get("at")) and all(SHAPES[name](value) for name, value in found.items() if name in SHAPES)
 
 
 def _is_number(value: Any) -> bool:
@@ -111,8 +114,16 @@ def _is_version(value: Any) -> bool:
     return isinstance(value, list) and len(value) == 3 and _is_number(value[0]) and all(each is None or _is_number(each) for each in value[1:])
 
 
+def _are_hits(value: Any) -> bool:
+    return isinstance(value, dict) and _are_folders(list(value)) and all(map(_are_counts, value.values()))
+
+
+def _are_counts(value: Any) -> bool:
+    return isinstance(value, list) and len(value) == 2 and all(map(_is_number, value)) and value[0] <= value[1]
+
+
 SHAPES = {
     "kind": lambda value: value in KINDS, "number": _is_number, "at": _is_time, "node": _is_number, "ticket": _is_number, "ask": _is_number,
     "folders": _are_folders, "who": lambda value: isinstance(value, str) and WHO.fullmatch(value) is not None, "versions": _are_versions,
-    "waited": _is_time, "held": _is_time,
+    "waited": _is_time, "held": _is_time, "hits": _are_hits,
 }

@@ -9,11 +9,11 @@ import threading
 import time
 from collections import OrderedDict
 from dataclasses import dataclass, field
-from typing import Callable, Iterator
+from typing import Callable, Iterable, Iterator, TypeVar
 
 from agent.filters.lines import Answer
 from agent.history import hints
-from agent.history.events import ENDS, GREATEST, Event, cut, cut_all, slot_name
+from agent.history.events import ENDS, GREATEST, STEPS, Event, cut, cut_all, slot_name
 from agent.history.kept import History
 from agent.service import operators
 
@@ -24,6 +24,10 @@ QUIET = ("started", "status", "line", "needed")  # answers in which nothing new 
 NOTES = {"ended": "withdraw", "withdrawn": "withdraw", "released": "release"}  # how a lease ended of which these tell
 
 
+Key = TypeVar("Key")
+Value = TypeVar("Value")
+
+
 @dataclass
 class Asked:
     """An ask that waits."""
@@ -31,6 +35,7 @@ class Asked:
     at: float
     folders: tuple[str, ...]
     who: str = ""
+    is_left: bool = False  # nobody wants it any more
 
 
 @dataclass
@@ -46,6 +51,7 @@ class Lease:
     waited: float | None = None
     has_begun: bool = False
     sizes: dict[str, tuple[int, int]] = field(default_factory=dict)
+    hits: dict[str, tuple[int, int]] = field(default_factory=dict)
     is_fenced: bool = False
     how: str = ""  # it ended
 
@@ -72,6 +78,7 @@ class Seen:
         self.history = history
         self.lock = threading.Lock()
         self.asks: OrderedDict[tuple[int, int, int], Asked] = OrderedDict()  # by node, life and ask
+        self.granted: OrderedDict[tuple[int, int, int], None] = OrderedDict()  # asks that were granted last
         self.leases: OrderedDict[int, Lease] = OrderedDict()
         self.over: OrderedDict[int, Lease] = OrderedDict()
         self.holders: dict[str, int] = {}  # of a folder: the ticket under which it was given to one alone last
@@ -98,15 +105,17 @@ class Seen:
     def begin(self, status: operators.Status) -> None:
         """Takes up what an earlier agent left in the history, and the leases that live."""
         with self._safely():
+            asks: dict[tuple[int, int], Asked] = {}
             for event in self.history.loaded:
-                self._take_up(event)
+                self._take_up(event, asks)
             live = {lease.ticket for lease in status.leases}
             self._lose(lambda ticket, lease: ticket not in live)
             for lease in status.leases:
                 self._take_live(lease)
             self.lives = {int(node): life for node, life in status.lives.items()}
-            now = time.time()
-            self.asks.update(((each.node, each.life, each.ask), Asked(now, cut_all(each.folders))) for each in status.waiting)
+            for each in status.waiting:
+                known, folders = asks.get((each.node, each.ask)), cut_all(each.folders)
+                self.asks[each.node, each.life, each.ask] = known if known and known.folders == folders else Asked(time.time(), folders)
 
     def _take_live(self, lease: operators.Lease) -> None:
         known, slots = self.leases.get(lease.ticket), cut_all(lease.slots)
@@ -114,8 +123,12 @@ class Seen:
             known = self.leases[lease.ticket] = Lease(lease.node, 0.0, slots)
         known.life, known.ask = lease.life, lease.ask
 
-    def _take_up(self, event: Event) -> None:
-        if event.kind == "grant":
+    def _take_up(self, event: Event, asks: dict[tuple[int, int], Asked]) -> None:
+        if event.kind == "wait":
+            asks[event.node, event.ask] = Asked(event.at, event.folders)
+        elif event.kind == "leave" and (event.node, event.ask) in asks:
+            asks[event.node, event.ask].is_left = True
+        elif event.kind == "grant":
             self.leases[event.ticket] = Lease(event.node, event.at, event.folders, ask=event.ask, who=event.who, waited=event.waited)
         elif event.kind == "begin" and event.ticket in self.leases:
             self.leases[event.ticket].who, self.leases[event.ticket].has_begun = event.who, True
@@ -125,8 +138,8 @@ class Seen:
                 self._put(self.over, event.ticket, lease, OVER_MOST)
 
     @staticmethod
-    def _put(where: OrderedDict[int, Lease], ticket: int, lease: Lease, most: int) -> None:
-        where[ticket] = lease
+    def _put(where: OrderedDict[Key, Value], key: Key, value: Value, most: int) -> None:
+        where[key] = value
         while len(where) > most:
             where.popitem(last=False)
 
@@ -166,13 +179,14 @@ class Seen:
     def _grant(self, node: int, life: int, ask: int, ticket: int, slots: list[str]) -> None:
         now = time.time()
         asked = self.asks.pop((node, life, ask), None)
+        self._put(self.granted, (node, life, ask), None, OVER_MOST)
         folders = cut_all(word.rpartition("=")[0] for word in slots)
         for slot in folders:
             self._end(self.holders.get(slot_name(slot), 0), "lost")
         self.holders.update((slot, ticket) for slot in folders if slot == slot_name(slot))
         if asked is None:
             self._add(Event("ask", at=now, node=node, ask=ask, folders=folders))
-        waited = max(0.0, now - asked.at) if asked else 0.0
+        waited = 0.0 if asked is None else None if asked.is_left else max(0.0, now - asked.at)
         lease = Lease(node, now, folders, life, ask, asked.who if asked else "", waited)
         self._put(self.leases, ticket, lease, LEASES_MOST)
         self._add(Event("grant", at=now, node=node, ticket=ticket, ask=ask, folders=folders, who=lease.who, waited=waited))
@@ -201,7 +215,7 @@ class Seen:
         self._put(self.over, ticket, lease, OVER_MOST)
         self._add(Event(
             how, at=now, node=lease.node, ticket=ticket, ask=lease.ask, folders=lease.folders, who=lease.who, versions=versions or {},
-            waited=lease.waited, held=held,
+            waited=lease.waited, held=held, hits=lease.hits,
         ))
 
     def _lose(self, is_lost: Callable[[int, Lease], bool]) -> None:
@@ -217,6 +231,7 @@ class Seen:
 
     def _retire(self, node: int) -> None:
         self._lose(lambda ticket, lease: lease.node == node)
+        self._leave(key for key in list(self.asks) if key[0] == node)
         self._add(Event("retire", node=node))
 
     def pruned(self, slot: str, ticket: int) -> None:
@@ -242,11 +257,25 @@ class Seen:
         """A new life of a node: what it had before is over."""
         self.lives[node] = life
         self._lose(lambda ticket, lease: lease.node == node and lease.life < life)
-        for key in [key for key in self.asks if key[0] == node and key[1] < life]:
+        over = [key for key in self.asks if key[0] == node and key[1] < life]
+        self._leave(over)
+        for key in over:
             del self.asks[key]
 
+    def _leave(self, keys: Iterable[tuple[int, int, int]]) -> None:
+        """Nobody wants some asks any more: their commands gave them up, or their nodes began new lives or were retired."""
+        for key in keys:
+            asked = self.asks.get(key)
+            if asked and not asked.is_left:
+                asked.is_left = True
+                waited = max(0.0, time.time() - asked.at)
+                self._add(Event("leave", node=key[0], ask=key[2], folders=asked.folders, who=asked.who, waited=waited))
+
     def _hear_ask(self, node: int, life: int, ask: int, folders: list[str], note: str) -> None:
-        key, is_new = (node, life, ask), (node, life, ask) not in self.asks
+        key = (node, life, ask)
+        if key in self.granted:  # by a line that was answered together with this one
+            return
+        is_new = key not in self.asks
         event = Event("ask", node=node, ask=ask, folders=cut_all(folders))
         if is_new:
             self._add(event)
@@ -268,10 +297,13 @@ class Seen:
             lease, asked = self.leases.get(told.ticket), self.asks.get((told.node, told.life, told.ask))
             if told.name == "waits" and asked and not asked.who:
                 asked.who = told.who
+            self._leave((told.node, told.life, ask) for ask in told.asks)
             if lease is None or lease.node != told.node:
                 return
             if told.name == "keeps" and not lease.sizes:
                 lease.sizes = {slot: size for slot, size in told.sizes.items() if cut(slot) in lease.folders}
+            if told.name == "hits" and not lease.hits:
+                lease.hits = {cut(slot): (had, of) for slot, (had, of) in told.sizes.items() if (slot == STEPS or cut(slot) in lease.folders) and had <= of}
             if told.name == "begun" and not lease.has_begun:
                 lease.has_begun, lease.who = True, told.who
                 self._add(Event("begin", node=told.node, ticket=told.ticket, ask=lease.ask, folders=lease.folders, who=told.who, waited=told.waited))

@@ -9,7 +9,7 @@ import re
 from itertools import islice
 from typing import Iterable
 
-from agent.history.events import Event, cut, slot_name, slot_of
+from agent.history.events import STEPS, Event, cut, slot_name, slot_of
 from agent.history.kept import History
 from agent.service.operators import HistoryRequest, Past, Status, Usual, Version, Why
 
@@ -59,7 +59,7 @@ def _with_event(version: Version, slot: str, event: Event | None) -> Version:
     number, files, size = event.versions.get(slot, (version.version, None, None))
     if number != version.version:  # of a generation before this one
         return version
-    return version._replace(at=event.at, node=event.node, who=event.who, files=files, size=size, held=event.held)
+    return version._replace(at=event.at, node=event.node, who=event.who, files=files, size=size, held=event.held, hits=event.hits.get(slot, event.hits.get(STEPS)))
 
 
 def why_of(history: History, folder: str, status: Status) -> Why:

@@ -63,6 +63,7 @@ class Own:
     since: float = field(default_factory=time.time)
     state: str = "running"
     kept: list[str] = field(default_factory=list)  # digests that are held until a commit is answered
+    hits: dict[str, tuple[int, int]] = field(default_factory=dict)  # what ccache had there for the command
 
 
 @dataclass(frozen=True)
@@ -357,6 +358,7 @@ class MergedFolders:
                     self._merge(own, grant.slots[0], rule, patience)
                     content = self._keep(own, patience)
             agent.tell_kept(grant.ticket, {own.slot: own.held.stands})
+            agent.tell_hits(grant.ticket, own.hits)
             with agent.places.rooms.file(content) as file:
                 note = agent.call(line_of("finish", str(grant.ticket), f"{own.slot}={file}"), epoch).note
             check_finished(note, grant.ticket)

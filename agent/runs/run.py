@@ -6,6 +6,7 @@ that what is named in `finish` is kept by the store.
 from __future__ import annotations
 
 import contextlib
+import os
 import signal
 import time
 from dataclasses import dataclass, field
@@ -13,13 +14,16 @@ from typing import Callable
 
 from agent.runs.caller import Caller, Patience
 from agent.runs.executions import Execution
+from agent.runs.hits import counts, since
 from agent.runs.merged import TARGETS, Counted, InConflict, Own
+from agent.runs.progress import Progress, heard
 from agent.faults import LOST, ClientGone, FarmFault, LifeOver, NodeRetired, UsageFault, WaitOver
 from agent.filters.lines import check_finished, line_of
 from agent.filters.node import Ending, NodeAgent
 from agent.folders.listing import escaped
 from agent.folders.places import check_apart, path_order, place_of
 from agent.folders.shared import Closed, Home, Tenure
+from agent.history.events import STEPS
 from agent.history.hints import begun
 from agent.tools import LOOK, need
 from agent.words import MOST_FOLDERS, Grant, Slot, Want
@@ -61,6 +65,7 @@ class Job:
     tells_conflicts: bool = False  # each by its path
     is_warm: bool = False  # a new PRIVATE folder begins as the last version of any
     who: str = ""  # as the history names it
+    progress: Progress | None = None  # hears what the command says on its standard error, where that is no terminal
 
 
 class Run:
@@ -141,7 +146,7 @@ class Run:
         with contextlib.ExitStack() as held:
             self._place({}, {})
             self._hold_paths(held, {})
-            status = self._command(None, {}, self._merged_binds())
+            status = self._counted(None, {}, self._merged_binds())
         self._left({})
         self.counts = not status or self.job.keeps_failed
         self.how = "committed" if self.counts else "failed"
@@ -253,7 +258,7 @@ class Run:
                 agent.places.clear(path)
                 binds.append((tenures[want.folder].path, path, want.writable))
         try:
-            status = self.ended = self._command(grant, tenures, binds)
+            status = self.ended = self._counted(grant, tenures, binds)
         finally:
             for want in self.leased:
                 if not want.is_shared:
@@ -334,7 +339,27 @@ class Run:
         self.kept.append(digest)
         return index, digest
 
-    def _command(self, grant: Grant | None, tenures: dict[str, Tenure], binds: list[tuple[str, str, bool]]) -> int:
+    def _counted(self, grant: Grant | None, tenures: dict[str, Tenure], binds: list[tuple[str, str, bool]]) -> int:
+        """Runs the command, and learns what ccache had for it in the folders that it has alone."""
+        slots = {slot.name: self.paths[slot.folder] for slot in grant.slots if slot.writable} if grant else {}
+        owns = {own.slot: own.held.path for own in self.owns.values() if own.want.writable}
+        before = {slot: counts(path) for slot, path in (slots | owns).items()}
+        progress, streams = self.job.progress, self.caller.streams
+        if progress and not os.isatty(streams[2]):  # a terminal has to stay one for the command
+            with heard(streams, progress.hear, lambda: self.caller.gone) as streams:
+                status = self._command(grant, tenures, binds, streams)
+        else:
+            status = self._command(grant, tenures, binds, streams)
+        hits = {slot: found for slot, path in (slots | owns).items() if (found := since(before[slot], counts(path)))}
+        for own in self.owns.values():
+            own.hits = {slot: found for slot, found in hits.items() if slot == own.slot}
+        if progress and (steps := progress.counts()):
+            hits[STEPS] = steps
+        if grant:
+            self.agent.tell_hits(grant.ticket, {slot: found for slot, found in hits.items() if slot not in owns})
+        return status
+
+    def _command(self, grant: Grant | None, tenures: dict[str, Tenure], binds: list[tuple[str, str, bool]], streams: list[int]) -> int:
         agent, job = self.agent, self.job
         executions = agent.executions if grant else agent.unleased  # no life of the node matters to a command without a lease
         if not agent.executions.has_namespaces:
@@ -347,7 +372,7 @@ class Run:
             self.begun = True
             for tenure in tenures.values():
                 tenure.used = True
-            execution = executions.start(self.command, job.cwd, self.env, self.caller.streams, binds, job.umask)
+            execution = executions.start(self.command, job.cwd, self.env, streams, binds, job.umask)
         self.caller.signalled = execution.signal
         if grant:
             agent.runs(grant.ticket)

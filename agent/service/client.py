@@ -4,6 +4,7 @@ Owes the filters nothing.
 """
 from __future__ import annotations
 
+import contextlib
 import json
 import os
 import signal
@@ -13,7 +14,7 @@ from typing import Any, TypeVar
 
 from agent.faults import LOST, FarmFault, UsageFault, tell
 from agent.runs.launch import PASSED
-from agent.service.carried import read, written
+from agent.service.carried import BadRequest, read, written
 
 Answer = TypeVar("Answer")
 
@@ -76,8 +77,9 @@ def _take(asked: Asked, told: dict[str, Any], shows: bool) -> bool:
         asked.status = int(told["exit"])
         return True
     if "told" in told:
-        asked.told = read(told["told"])
-    elif told["say"]:
+        with contextlib.suppress(BadRequest):  # a kind, or a word of one, of another version
+            asked.told = read(told["told"], is_told=True)
+    elif told.get("say"):
         asked.said.append(told["say"])
         if shows:
             tell(told["say"])

@@ -101,6 +101,7 @@ class Version(NamedTuple):
     who: str = ""
     files: int | None = None
     held: float | None = None  # seconds for which its lease lived
+    hits: tuple[int, ...] | None = None  # how much its ccache had, and of how much
 
 
 class FolderStatus(NamedTuple):
@@ -125,6 +126,7 @@ class Status(NamedTuple):
     versions: int = 0  # of all folders together
     waited: float = 0.0  # seconds for which the oldest ask has waited
     record: int = 0  # bytes of the coordinator's record and its log
+    troubles: tuple[str, ...] = ()  # of several brokers those that its agent can't reach, in words
 
 
 class Versions(NamedTuple):

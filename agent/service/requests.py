@@ -117,7 +117,7 @@ class Digests(NamedTuple):
 
 
 class StorePlace(NamedTuple):
-    """Where contents lie: a broker's Redis, or the folder or bucket named; neither: the home's own folder."""
+    """Where contents lie: the Redis of a broker, or of several, parted by blanks; or the folder or bucket named; neither: the home's own folder."""
 
     broker: str | None
     contents: str | None

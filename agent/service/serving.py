@@ -5,6 +5,7 @@ Owes the filters that one agent alone serves a home, which their own locks see t
 from __future__ import annotations
 
 import contextlib
+import functools
 import math
 import os
 import signal
@@ -12,6 +13,7 @@ import socket
 import threading
 import time
 from dataclasses import dataclass, field
+from typing import Sequence
 
 from agent.build.builds import Build, Builds
 from agent.service.client import check_home, is_there
@@ -27,7 +29,6 @@ from agent.filters.node import NodeAgent, Setup
 from agent.folders.places import check_outside
 from agent.history.told import past_of, why_of, with_past
 from agent.store.opened import open_store
-from agent.store.redis import RedisStore
 from agent.transport.redis import RedisTransport
 from agent.transport.redis_wire import signed_in
 from agent.runs.run import Job, Run
@@ -41,6 +42,7 @@ from agent.service.requests import (
 )
 from agent.service.sockets import Connection, Handler, Service, group_of
 from agent.store.folder import is_old
+from agent.store.shared import SharedStore
 from agent.store.lasting import clock_of
 from agent.tools import farm_program
 from agent.transport.local import LocalTransport, Transport
@@ -57,7 +59,7 @@ class Wanted:
     coordinator: bool
     nodes: tuple[int, ...]
     most: int  # how many nodes the farm has
-    broker: str | None = None
+    brokers: tuple[str, ...] = ()
     contents: str | None = None  # the folder of a store that machines share, or s3://BUCKET/PREFIX
     lease_timeout: float | None = None
     most_asks: int = MOST  # leases and asks that one node may have at once
@@ -99,13 +101,13 @@ def check(wanted: Wanted) -> None:
     check_home(home)
     if wanted.lease_timeout is not None and wanted.lease_timeout < SILENT_LEAST:
         raise UsageFault(f"a node that is well may be silent for some seconds: --lease-timeout is at least {SILENT_LEAST:g}")
-    if not wanted.broker and os.path.exists(mark):
+    if not wanted.brokers and os.path.exists(mark):
         raise UsageFault(f"{home} is of a farm over a broker. If that farm is gone, remove {mark}")
     if wanted.restored and (is_there(f"{home}/coordinator.sock") or not os.path.exists(f"{home}/{FARM_NAME}")):
         raise UsageFault(f"--restored is for a coordinator that has ended, and whose key and record lie in {home}")
-    if wanted.broker and wanted.coordinator and os.path.exists(mark) and not os.path.exists(f"{home}/record") and not wanted.restored:
+    if wanted.brokers and wanted.coordinator and os.path.exists(mark) and not os.path.exists(f"{home}/record") and not wanted.restored:
         raise UsageFault(f"{home} is of a farm whose coordinator has another home, or lost its record: a second one would give its tickets again")
-    if wanted.broker and not wanted.coordinator:
+    if wanted.brokers and not wanted.coordinator:
         check_node_key(home, wanted.nodes[0])
 
 
@@ -125,9 +127,9 @@ def check_node_key(home: str, node: int) -> None:
 
 def join(wanted: Wanted, names: Names) -> None:
     """Marks the home of a farm over a broker: a farm that serves it alone would have a coordinator of its own, and other versions."""
-    if wanted.broker:
+    if wanted.brokers:
         with open(f"{wanted.home}/joined", "w") as file:
-            file.write(wanted.broker.rpartition("@")[2].removeprefix("redis://") + f"\n{names.farm}\n")
+            file.write(" ".join(each.rpartition("@")[2].removeprefix("redis://") for each in wanted.brokers) + f"\n{names.farm}\n")
 
 
 def check_joined(home: str, names: Names) -> None:
@@ -184,25 +186,29 @@ def setup_of(wanted: Wanted) -> Setup:
         check_contents(wanted.contents, key.names)
     transport: Transport = LocalTransport()
     counts, log = Counts(), opened(wanted.verbose, wanted.log_json)
-    broker = wanted.broker and signed_in(wanted.broker, key.password())
-    if broker:
-        transport = over_broker(broker, key.names, counts, log)
-    store = open_store(wanted.home, broker, wanted.contents, key.names, "-".join(map(str, wanted.nodes)))
+    brokers = [signed_in(each, key.password()) for each in wanted.brokers]
+    if brokers:
+        transport = over_brokers(brokers, key.names, counts, log)
+    store = open_store(wanted.home, brokers, wanted.contents, key.names, "-".join(map(str, wanted.nodes)))
     store.counts, store.log = counts, log
-    if isinstance(store, RedisStore) and not store.keeps_well():
+    if isinstance(store, SharedStore) and not store.keeps_well():
         tell("Redis doesn't sync what it is given (appendonly yes, appendfsync always): its crash can lose contents")
     return Setup(program=program, home=wanted.home, key=key, store=store, transport=transport, log=log, counts=counts)
 
 
-def over_broker(broker: str, names: Names, counts: Counts, log: Log) -> RedisTransport:
-    """Lines over a broker. That it can't be reached is told once, and that it can be again."""
-    transport = RedisTransport(broker, f"farm-{names.lines()}")
-
-    def reached(why: str) -> None:
-        if said := counts.reached("the broker", why):
+def over_brokers(brokers: Sequence[str], names: Names, counts: Counts, log: Log) -> Transport:
+    """Lines over a broker, or several. That one can't be reached is told once, and that it can be again."""
+    def reached(which: str, why: str) -> None:
+        if said := counts.reached(which, why):
             log(said, WARNING if why else NOTICE)
 
-    transport.reached = reached
+    farm = f"farm-{names.lines()}"
+    if len(brokers) > 1:
+        from agent.transport.brokers import Brokers
+
+        return Brokers(brokers, farm, lambda where, why: reached(f"the broker {where}", why))
+    transport = RedisTransport(brokers[0], farm)
+    transport.reached = functools.partial(reached, "the broker")
     return transport
 
 
@@ -232,7 +238,7 @@ def _begin_coordinator(served: Served, setup: Setup) -> None:
     wanted = served.wanted
     assert isinstance(setup.key, FarmKey)
     agent = CoordinatorAgent(
-        setup, setup.key, wanted.lease_timeout, nodes=wanted.most, has_broker=bool(wanted.broker), most_asks=wanted.most_asks
+        setup, setup.key, wanted.lease_timeout, nodes=wanted.most, has_broker=bool(wanted.brokers), most_asks=wanted.most_asks
     )
     served.coordinator = agent
     agent.talk.start()
@@ -375,7 +381,7 @@ def answer_command(agent: NodeAgent, builds: Builds, wanted: Wanted, request: ob
     elif isinstance(request, NeededRequest):
         link.tell(Digests(digests=tuple(sorted(agent.needed(request.keep)))))
     elif isinstance(request, StoreRequest):
-        link.tell(StorePlace(broker=wanted.broker, contents=wanted.contents))
+        link.tell(StorePlace(broker=" ".join(wanted.brokers) or None, contents=wanted.contents))
     elif isinstance(request, CountsRequest):
         link.tell(Counted(process=os.getpid(), samples=agent.counts.told()))
     else:
@@ -434,7 +440,7 @@ def answer_operator(agent: CoordinatorAgent, wanted: Wanted, request: object, li
     elif isinstance(request, NeededRequest):
         link.tell(Digests(digests=tuple(sorted(agent.needed(request.keep)))))
     elif isinstance(request, StoreRequest):
-        link.tell(StorePlace(broker=wanted.broker, contents=wanted.contents))
+        link.tell(StorePlace(broker=" ".join(wanted.brokers) or None, contents=wanted.contents))
     elif isinstance(request, CountsRequest):
         link.tell(Counted(process=os.getpid(), samples=agent.setup.counts.told()))
     else:

@@ -17,7 +17,7 @@ import traceback
 from typing import IO, Any, Callable
 
 from agent.faults import BAD_DOCKERFILE, FAULT, LOST, FarmFault, NodeRetired, UsageFault, sentence
-from agent.service.carried import read, written
+from agent.service.carried import BadRequest, read, written
 from agent.service.requests import NodeWasRetired
 
 Handler = Callable[[object, "Connection"], int]  # answers a request; another one it refuses
@@ -117,6 +117,8 @@ def handled(handler: Handler, raw: bytes, connection: Connection, failed: Failed
 def _said(fault: Exception) -> str:
     if isinstance(fault, FarmFault):
         return ("refused: " if fault.status == BAD_DOCKERFILE else "") + str(fault)
+    if isinstance(fault, BadRequest):
+        return f"the agent doesn't understand what it is asked: {fault}. Does another version of it run? Then start it again"
     return sentence(fault) if isinstance(fault, OSError) else f"{type(fault).__name__}: {fault}"
 
 

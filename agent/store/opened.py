@@ -4,6 +4,8 @@ Owes the filters nothing.
 """
 from __future__ import annotations
 
+from typing import Sequence
+
 from agent.store.folder import FolderStore, Store
 from agent.store.redis import RedisStore
 from agent.transport.keys import Names
@@ -15,13 +17,17 @@ def farm_name(names: Names) -> str:
     return f"farm-{names.farm}"
 
 
-def open_store(home: str, broker: str | None, contents: str | None, names: Names, owner: str = "") -> Store:
-    """The folder or bucket of contents that is named; else the broker's Redis; else a folder of the home."""
+def open_store(home: str, brokers: Sequence[str], contents: str | None, names: Names, owner: str = "") -> Store:
+    """The folder or bucket of contents that is named; else the brokers' Redis; else a folder of the home."""
     if contents and is_bucket(contents):
         from agent.store.s3 import S3Store  # what it stands on takes a second
 
         return S3Store(contents, f"{home}/contents", farm_name(names), owner)
     root = contents or f"{home}/contents"
-    if not broker or contents:
+    if not brokers or contents:
         return FolderStore(root)
-    return RedisStore(broker, root, farm_name(names), owner)
+    if len(brokers) == 1:
+        return RedisStore(brokers[0], root, farm_name(names), owner)
+    from agent.store.brokers import BrokersStore
+
+    return BrokersStore(brokers, root, farm_name(names), owner)

@@ -8,17 +8,17 @@ from __future__ import annotations
 import contextlib
 import hashlib
 import time
-from typing import Callable, Iterator
+from typing import Callable, Iterator, Sequence
 
 from agent.faults import FarmFault
 from agent.store.chunks import chunk_names
 from agent.store.folder import LARGEST_CONTENT, ChunksMissing, Kept, Tally
 from agent.store.shared import AT_ONCE, AWAY, SharedStore, most_packed
-from agent.transport.redis_wire import Redis, RedisAway, RedisFault, Word
+from agent.transport.redis_wire import Redis, RedisFault, Word, is_away
 
 HELD_MOST = 1 << 28  # bytes of all that is being made at once
 TALLIED_AT_ONCE = 1_000  # keys
-TURNS_MOST = 100  # times that what may be forgotten is looked for
+VAIN_MOST = 100  # looks one after the other behind which something was held before anything was forgotten
 
 # Redis keeps beside all keys when each was last given or found there: what is young isn't forgotten, since a commit of it may be under way.
 # What is being made stands in a hash beside, with its index, until its commit is answered, and nothing is forgotten while that has changed.
@@ -34,11 +34,27 @@ if given and redis.call('TIME')[1] - given < tonumber(ARGV[1]) then return 0 end
 redis.call('DEL', KEYS[1]) redis.call('ZREM', KEYS[2], KEYS[1]) return 1"""
 
 
+class Progress:
+    """How far a sending came, and how long it is tried yet: that it gets further renews its time."""
+
+    def __init__(self, patience: float) -> None:
+        self.patience, self.furthest = patience, 0
+        self.end = time.monotonic() + patience
+
+    def got(self, at: int) -> None:
+        """The chunks from there on are given, as many as go at once."""
+        if at >= self.furthest:
+            self.furthest, self.end = at + AT_ONCE, time.monotonic() + self.patience
+
+    def is_over(self) -> bool:
+        return time.monotonic() > self.end
+
+
 class RedisStore(SharedStore):
     name = "the store over Redis"
 
-    def __init__(self, url: str, root: str, farm: str, owner: str = "") -> None:
-        self.server = Redis(url)
+    def __init__(self, server: str | Redis, root: str, farm: str, owner: str = "") -> None:
+        self.server = Redis(server) if isinstance(server, str) else server
         self.farm = farm
         super().__init__(root, owner)
 
@@ -61,52 +77,62 @@ class RedisStore(SharedStore):
     def release(self, digest: str, is_answered: bool = True) -> None:
         """With the first commit that is answered what this agent's processes before this one held is let go: their commits are decided."""
         super().release(digest, is_answered)
-        if not is_answered:
-            return
-        with contextlib.suppress(RedisFault):
-            fields = [f"{self.owner}.{self.own}.{digest}"]
-            if not self.is_followed:
-                held = self.server.call("HKEYS", f"{self.farm}:held")
-                fields += [name.decode() for name in held if self._is_before(name.decode())]
-            self.server.call("HDEL", f"{self.farm}:held", *fields)
-            self.is_followed = True
+        if is_answered:
+            with contextlib.suppress(RedisFault):
+                self._let_go(self._field(digest))
+
+    def _field(self, digest: str) -> str:
+        """What a content is held as."""
+        return f"{self.owner}.{self.own}.{digest}"
+
+    def _let_go(self, field: str, is_answered: bool = True) -> None:
+        fields = [field]
+        if is_answered and not self.is_followed:
+            held = self.server.call("HKEYS", f"{self.farm}:held")
+            fields += [name.decode() for name in held if self._is_before(name.decode())]
+        self.server.call("HDEL", f"{self.farm}:held", *fields)
+        self.is_followed = self.is_followed or is_answered
 
     def _is_before(self, field: str) -> bool:
         owner, _, rest = field.partition(".")
         return bool(self.owner) and owner == self.owner and not rest.startswith(f"{self.own}.")
 
-    def _held(self) -> tuple[bytes, set[str], set[str]]:
-        """How often something was held, and the digests and chunks that are held."""
+    def _held(self) -> tuple[bytes, dict[str, bool], set[str]]:
+        """How often something was held, the digests that are, each with whether its index stands there, and the chunks that are held."""
         count, held = self.server.calls([("GET", f"{self.farm}:holds"), ("HGETALL", f"{self.farm}:held")], HELD_MOST)
-        digests, names = set[str](), set[str]()
+        digests, names = dict[str, bool](), set[str]()
         for field, index in zip(held[::2], held[1::2]) if isinstance(held, list) else ():
             with contextlib.suppress(FarmFault, AttributeError, TypeError):  # a hold that somebody spoilt
-                digests.add(field.decode(errors="replace").rpartition(".")[2])
+                digest = field.decode(errors="replace").rpartition(".")[2]
+                digests.setdefault(digest, False)
                 names.update(chunk_names(index))
+                digests[digest] |= hashlib.sha256(index).hexdigest() == digest
         return count if isinstance(count, bytes) else b"0", digests, names
 
     def _send(self, digest: str, index: bytes, away: Callable[[str], None] | None = None, base: bytes = b"") -> None:
         """Begins again after each fault, since a server that was away may have lost what it took. That it gets further renews its time. Where
         nobody hears that it is away all is sent, and once."""
-        names, patience, anew = self._to_look_for(index, base), AWAY if away else 0.0, away is None
-        furthest, end = 0, time.monotonic() + patience
+        names, progress = self._to_look_for(index, base), Progress(AWAY if away else 0.0)
         while True:
             try:
-                if not anew:
-                    held = f"{self.owner}.{self.own}.{digest}"
-                    self.server.calls([("EVAL", HOLD, 2, f"{self.farm}:held", f"{self.farm}:holds", held, index)])
-                for at in range(0, len(names), AT_ONCE):
-                    self._send_chunks(names[at : at + AT_ONCE], anew)
-                    if at >= furthest:
-                        furthest, end = at + AT_ONCE, time.monotonic() + patience
-                self.server.calls([self._script(GIVE, self._name("index", digest), index)])
-                return
+                return self._give(digest, index, names, self._field(digest) if away else "", progress)
             except RedisFault as fault:
-                is_away = isinstance(fault, RedisAway) or str(fault).startswith("LOADING")
-                if not is_away or away is None or time.monotonic() > end:
+                if not is_away(fault) or away is None or progress.is_over():
                     raise FarmFault(f"{self.name} took no contents: {fault}") from None
                 away(f"waiting for {self.name}, which takes no contents: {fault}")
             time.sleep(0.5)
+
+    def _give(self, digest: str, index: bytes, names: list[str], field: str, progress: Progress) -> None:
+        """Holds a content in this field, looks for its chunks, and gives what isn't there. Without a field it gives all."""
+        if field:
+            self.server.calls([("EVAL", HOLD, 2, f"{self.farm}:held", f"{self.farm}:holds", field, index)])
+        for at in range(0, len(names), AT_ONCE):
+            self._send_chunks(names[at : at + AT_ONCE], not field)
+            progress.got(at)
+        self._put("index", {digest: index})
+
+    def _put(self, kind: str, some: dict[str, bytes]) -> None:
+        self.server.calls([self._script(GIVE, self._name(kind, name), data) for name, data in some.items()])
 
     def _to_look_for(self, index: bytes, base: bytes) -> list[str]:
         known = set(chunk_names(base))
@@ -122,39 +148,47 @@ class RedisStore(SharedStore):
         there = self.server.calls(commands) if commands else [0] * len(names)
         chunks = [(name, self._packed(name)) for name, is_there in zip(names, there) if not is_there]
         if chunks:
-            self.server.calls([self._script(GIVE, self._name("chunk", name), packed) for name, packed in chunks])
+            self._put("chunk", dict(chunks))
             self._moved("given", [packed for _, packed in chunks])
         with self.lock:
             self._take_compared(names)
 
     def _index_there(self, digest: str) -> object:
         with contextlib.suppress(RedisFault):
-            return self.server.call("GET", self._name("index", digest), most=LARGEST_CONTENT)
+            return self._got_index(digest)
         return None
 
+    def _got_index(self, digest: str) -> object:
+        return self.server.call("GET", self._name("index", digest), most=LARGEST_CONTENT)
+
     def _packed_there(self, names: list[str], sizes: dict[str, int]) -> list[object]:
-        most = sum(most_packed(sizes[name]) for name in names)
         try:
-            return list(self.server.calls([("GET", self._name("chunk", name)) for name in names], most))
+            return self._got_chunks(names, sizes)
         except RedisFault as fault:
             raise ChunksMissing(f"{self.name} gave no contents: {fault}") from None
 
+    def _got_chunks(self, names: list[str], sizes: dict[str, int]) -> list[object]:
+        most = sum(most_packed(sizes[name]) for name in names)
+        return list(self.server.calls([("GET", self._name("chunk", name)) for name in names], most))
+
     def forget(self, ask: Callable[[], set[str]], grace: float, tell: Callable[[str], None] = lambda digest: None) -> tuple[int, int]:
-        """Removes from Redis what is removed from a folder. Where something was held meanwhile it begins anew."""
-        indexes, chunks, told = 0, 0, set[str]()
+        """Removes from Redis what is removed from a folder."""
         try:
-            for _ in range(TURNS_MOST):
-                passing = _Passing(self, ask, grace)
-                is_done = passing.run()
-                indexes, chunks = indexes + passing.indexes, chunks + passing.chunks
-                for digest in passing.unreadable - told:
-                    tell(digest)
-                told |= passing.unreadable
-                if is_done:
-                    return indexes, chunks
+            return Passing([self], self.index, ask, grace).run(tell)
         except RedisFault as fault:
             raise FarmFault(f"the store over Redis forgot nothing more: {fault}") from None
-        raise FarmFault("commits came again and again, and the store over Redis forgot nothing more: begin it anew")
+
+    def _forget(self, kind: str, names: list[str], grace: float, count: bytes) -> list[object]:
+        """Of each whether it is gone, 1, or is young, 0; or -1 where something was held since it was counted."""
+        return list(self.server.calls([
+            ("EVAL", FORGET, 3, self._name(kind, name), f"{self.farm}:given", f"{self.farm}:holds", int(grace), count) for name in names
+        ]))
+
+    def _young(self, kind: str, names: list[str], grace: float) -> set[str]:
+        """Those that were given here within the grace."""
+        now, *given = self.server.calls([("TIME",), *(("ZSCORE", f"{self.farm}:given", self._name(kind, name)) for name in names)])
+        return {name for name, at in zip(names, given) if at is not None and int(now[0]) - float(at) < int(grace)}
+
 
     def tally(self) -> Tally:
         """Sizes are of the values: what Redis needs beside them it says itself (`INFO memory`)."""
@@ -188,49 +222,78 @@ class RedisStore(SharedStore):
                 return list(found)
 
 
-class _Passing:
-    """One going through what Redis has."""
+class Passing:
+    """One going through what Redis has, or several that were given the same: what one of them would keep all keep, but what isn't there. It goes
+    on while commits come: what nothing needs is forgotten only as long as nothing was held since it was looked what is held and needed, and after
+    that it is looked anew, which is short, since what was read of indexes stays right."""
 
-    def __init__(self, store: RedisStore, ask: Callable[[], set[str]], grace: float) -> None:
-        self.store, self.grace = store, grace
-        self.count, digests, self.held = store._held()  # before it is asked: what is answered meanwhile is needed then
-        self.needed = ask() | digests
+    def __init__(self, stores: Sequence[RedisStore], index: Callable[[str], bytes | None], ask: Callable[[], set[str]], grace: float) -> None:
+        self.stores, self.index, self.ask, self.grace = stores, index, ask, grace
         self.indexes, self.chunks = 0, 0
+        self.needed, self.used = set[str](), set[str]()  # digests and chunks: those that something needed since it began
+        self.counted = set[str]()  # digests whose chunks are among the used ones
         self.unreadable = set[str]()
+        self.is_whole = True  # whether all that the farm has were asked
+        self._look()
 
-    def run(self) -> bool:
-        """Whether nothing was held meanwhile."""
-        store = self.store
-        digests = store._kept("index")
-        unneeded = [digest for digest in digests if digest not in self.needed]
-        had = {digest: store.index(digest) for digest in unneeded}
-        gone = self._forget("index", unneeded)
-        if gone is None:
-            return False
-        used = set(self.held)
-        for digest in self.needed | (set(digests) - gone):
-            index = had.get(digest) or store.index(digest)
-            used.update(chunk_names(index or b""))
-            if index is None and digest in self.needed:
+    def _look(self) -> None:
+        """What is held, and behind that what is needed, so that what is answered meanwhile is."""
+        held = [store._held() for store in self.stores]
+        self.counts = [count for count, _, _ in held]
+        self.needed |= self.ask()
+        for _, digests, names in held:
+            self.needed |= digests.keys()
+            self.used |= names
+            self.counted |= {digest for digest, is_there in digests.items() if is_there}
+        self._use(self.needed)
+
+    def _use(self, digests: set[str]) -> None:
+        for digest in digests - self.counted:
+            index = self.index(digest)
+            if index is not None:
+                self.counted.add(digest)
+                self.unreadable.discard(digest)
+                self.used.update(chunk_names(index))
+            elif digest in self.needed:
                 self.unreadable.add(digest)
-        free = {name for digest in gone for name in chunk_names(had[digest] or b"")} if self.unreadable else None
-        unused = [name for name in store._kept("chunk") if name not in used and (free is None or name in free)]
-        return self._forget("chunk", unused) is not None
 
-    def _forget(self, kind: str, names: list[str]) -> set[str] | None:
-        """Those that went; none where something was held meanwhile."""
-        gone, store = set[str](), self.store
-        for at in range(0, len(names), AT_ONCE):
-            some = names[at : at + AT_ONCE]
-            went = store.server.calls([
-                ("EVAL", FORGET, 3, store._name(kind, name), f"{store.farm}:given", f"{store.farm}:holds", int(self.grace), self.count)
-                for name in some
-            ])
-            gone.update(name for name, is_gone in zip(some, went) if is_gone == 1)
+    def run(self, tell: Callable[[str], None]) -> tuple[int, int]:
+        """How many indexes and chunks went. What is needed and can't be read is told."""
+        digests = self._kept("index")
+        had = {digest: self.index(digest) or b"" for digest in digests if digest not in self.needed}
+        gone = self._forget("index", list(had), lambda digest: digest not in self.needed)
+        self._use(set(digests) - gone)
+        free = {name for digest in gone if self.is_whole for name in chunk_names(had[digest])}
+        self._forget("chunk", self._kept("chunk"), lambda name: name not in self.used and (not self.unreadable or name in free))
+        for digest in self.unreadable:
+            tell(digest)
+        return self.indexes, self.chunks
+
+    def _kept(self, kind: str) -> list[str]:
+        return list(dict.fromkeys(name for store in self.stores for name in store._kept(kind)))
+
+    def _forget(self, kind: str, names: list[str], may_go: Callable[[str], bool]) -> set[str]:
+        """Those that went from all."""
+        gone, at, vain = set[str](), 0, 0
+        while at < len(names):
+            some = self._old(kind, [name for name in names[at : at + AT_ONCE] if may_go(name) and name not in gone])
+            went = [store._forget(kind, some, self.grace, count) for store, count in zip(self.stores, self.counts)]
+            more = {name for name, each in zip(some, zip(*went)) if all(one == 1 for one in each)}
+            gone |= more
             if kind == "index":
                 self.indexes = len(gone)
             else:
                 self.chunks = len(gone)
-            if -1 in went:
-                return None
+            if not any(-1 in each for each in went):
+                at, vain = at + AT_ONCE, 0
+                continue
+            vain = 0 if more else vain + 1
+            if vain > VAIN_MOST:
+                raise FarmFault("commits came again and again, and the store over Redis forgot nothing more: begin it anew")
+            self._look()
         return gone
+
+    def _old(self, kind: str, names: list[str]) -> list[str]:
+        """Those that are young nowhere. One store alone says so where it forgets them."""
+        young = set[str]().union(*(store._young(kind, names, self.grace) for store in self.stores)) if len(self.stores) > 1 else ()
+        return [name for name in names if name not in young]

@@ -10,7 +10,7 @@ import contextlib
 import hashlib
 import secrets
 import threading
-from typing import Callable
+from typing import Callable, TypeGuard
 
 from agent.counts import Counts
 from agent.faults import FarmFault
@@ -30,6 +30,11 @@ COMPARED_MOST = 1 << 18  # chunks
 def most_packed(size: int) -> int:
     """The bytes that a chunk of a size can have, packed."""
     return size + (size >> 8) + SPARE
+
+
+def is_content(data: object, digest: str) -> TypeGuard[bytes]:
+    """Whether what a store handed out is what it was asked for."""
+    return isinstance(data, bytes) and hashlib.sha256(data).hexdigest() == digest
 
 
 class SharedStore(abc.ABC):
@@ -63,6 +68,10 @@ class SharedStore(abc.ABC):
     @abc.abstractmethod
     def tally(self) -> Tally:
         """What the store has."""
+
+    def keeps_well(self) -> bool:
+        """Whether what was given lasts."""
+        return True
 
     def making(self) -> contextlib.AbstractContextManager[None]:
         return self.folder.making()
@@ -105,22 +114,26 @@ class SharedStore(abc.ABC):
         if found is not None:
             return found
         data = self._index_there(digest)
-        return data if isinstance(data, bytes) and hashlib.sha256(data).hexdigest() == digest else None
+        return data if is_content(data, digest) else None
 
     def fetch(self, index: bytes) -> None:
         missing, sizes, bad = self.folder.missing(index), chunk_sizes(index), 0
         with Fresh(self.chunks) as fresh:
             for at in range(0, len(missing), AT_ONCE):
                 names = missing[at : at + AT_ONCE]
-                with self.counts.timed(self.name, "get", self.log):
-                    there = self._packed_there(names, sizes)
-                bad += sum(not self._take(fresh, name, data, sizes[name]) for name, data in zip(names, there))
+                bad += len(self._get(fresh, names, sizes))
             fresh.settle()
         if bad:
             raise ChunksMissing(f"{bad} chunks of a version are neither here nor, as they were made, in {self.name}")
         path = f"{self.folder.indexes}/{hashlib.sha256(index).hexdigest()}"
         if index and self.folder.index(hashlib.sha256(index).hexdigest()) is None:
             put_file(path, index)  # all of it is here: this machine can offer it
+
+    def _get(self, fresh: Fresh, names: list[str], sizes: dict[str, int]) -> list[str]:
+        """Puts some chunks into the folder. Those that the store hasn't, or not as they were made."""
+        with self.counts.timed(self.name, "get", self.log):
+            there = self._packed_there(names, sizes)
+        return [name for name, data in zip(names, there) if not self._take(fresh, name, data, sizes[name])]
 
     def _take(self, fresh: Fresh, name: str, data: object, size: int) -> bool:
         """Puts a chunk into the folder, where it is what its name says."""

@@ -328,6 +328,11 @@ class Options(support.FarmTest):
         daemon.start()
         self.env["DOCKER_HOST"] = daemon.host
         self.tried("--builder", "docker", forget=[cli(), "image", "rm", "--force"])
+        self.write("steps", f"FROM {self.base}:1\nRUN echo one\nRUN {T},id=s,target=/s echo two | tee /s/f\n")
+        seen = [self.farm("build", "--builder", "docker", "--progress", "plain", "--network", "none", "-f", "steps", ".").stderr for _ in range(2)]
+        self.assertTrue(all(re.search(r"(?m)^#[0-9]+ \[stage-0 [23]/3\] RUN ", each) for each in seen), seen)
+        found = [event["hits"] for line in self.asked("history", "--json").splitlines() if "hits" in (event := json.loads(line))]
+        self.assertEqual(found[-2:], [{"steps": [0, 2]}, {"steps": [2, 2]}])
 
 
 if __name__ == "__main__":

@@ -10,22 +10,28 @@ from typing import Any, Callable
 from unittest import mock
 
 from agent.commands.run import own_word
+from agent.counts import Counts
 from agent.filters.lines import Answer
+from agent.filters.measured import Measured
 from agent.history import hints, seen
 from agent.history.events import FOLDER_MOST, Event, cut, event_of, line_of
 from agent.history.kept import History
 from agent.history.told import past_of, usual
-from agent.service.operators import HistoryRequest
+from agent.logs import SILENT
+from agent.runs import hits
+from agent.runs.hits import counts, since
+from agent.runs.progress import Progress, heard
+from agent.service.operators import HistoryRequest, Status, Waiting
 from agent.words import who_of
 
 from agent.tests import support
 
 SPOILT = (
     "", "{", "null", "[]", '{"kind":"grant"}', '{"kind":"grant","number":1}', '{"kind":"sold","number":1,"at":1}', '{"kind":"grant","number":-1,"at":1}',
-    '{"kind":"grant","number":true,"at":1}', '{"kind":"grant","number":1,"at":NaN}', '{"kind":"grant","number":1,"at":1e400}', '{"kind":"grant","number":1,"at":1,"x":1}',
+    '{"kind":"grant","number":true,"at":1}', '{"kind":"grant","number":1,"at":NaN}', '{"kind":"grant","number":1,"at":1e400}',
     '{"kind":"grant","number":1,"at":1,"who":"a b"}', '{"kind":"grant","number":1,"at":1,"who":"\\u001b[2J"}', '{"kind":"grant","number":1,"at":1,"folders":"c"}',
     '{"kind":"grant","number":1,"at":1,"folders":["a\\nb"]}', f'{{"kind":"grant","number":1,"at":1,"folders":["{"x" * 400}"]}}',
-    '{"kind":"commit","number":1,"at":1,"versions":{"c":[1]}}', '{"kind":"commit","number":1,"at":1,"versions":{"c":[1,"2",3]}}', "[" * 9000, "\x00\x7f\xff",
+    '{"kind":"commit","number":1,"at":1,"hits":{"c":[2,1]}}', '{"kind":"commit","number":1,"at":1,"versions":{"c":[1]}}', '{"kind":"commit","number":1,"at":1,"versions":{"c":[1,"2",3]}}', "[" * 9000, "\x00\x7f\xff",
     '{"kind":"grant","number":1,"at":1',
 )
 
@@ -67,6 +73,7 @@ class Kept(support.RoomTest):
         for line in SPOILT:
             self.assertIsNone(event_of(line), line)
         self.assertEqual([event_of(line_of(event)) for event in good], good)
+        self.assertEqual(event_of(line_of(good[0])[:-1] + ',"colour":{"of":1}}'), good[0])  # of a newer agent
         with open(self.path("history"), "w", encoding="latin-1") as file:
             file.write("\n".join([line_of(good[0]), *SPOILT[:-1], line_of(good[1]), SPOILT[-1]]))
         history = self.history()
@@ -131,6 +138,7 @@ class Believes(support.RoomTest):
             ("begun 1 7 2.5 a@b", True), ("waits 1 1 3 0.0 -", True), ("keeps 1 7 locked:c=2:30", True), ("begun 1 7 2.5", False), ("begun 1 7 -1.0 x", False),
             ("begun 1 7 2.5 \x1b[2J", False), ("begun 1 7 2.5 é", False), (f"begun 1 7 2.5 {'x' * 65}", False), ("begun 1 7 2.5 a b", False), ("begun 1 x 2.5 a", False),
             (f"begun 1 {'9' * 16} 2.5 a", False), ("keeps 1 7 c=1", False), (f"keeps 1 7 c={'9' * 16}:1", False), (f"keeps 1 7{' c=1:1' * 30}", False), ("keeps 1 7", False),
+            ("hits 1 7 locked:c=3:4", True), ("hits 1 7 locked:c=3", False), ("left 1 1 3", True), (f"left 1 1{' 3' * 900}", True), ("left 1 1", False), ("left 1 1 x", False), (f"left 1 1{' 3' * 2000}", False),
             ("keeps 1 7 a\nb=1:1", False), ("held 1 7 2.5 a", False), ("begun 1 7 2.5 ", False), ("waits 1 ² 3 0.0 -", False),
         ]
         for text, is_right in rows:
@@ -139,6 +147,8 @@ class Believes(support.RoomTest):
     def test_another_node(self) -> None:
         """A node is believed about its own leases, once of each thing, and about no slot that it doesn't have."""
         self.grant(1, 7)
+        for text in ("hits 2 7 locked:c=1:1", "hits 1 7 locked:d=1:1 locked:c=9:8", "hits 1 7 locked:c=8:9", "hits 1 7 locked:c=9:9"):
+            self.seen.hear_hint(text.split(" "))
         for text in ("begun 2 7 1.0 mallory", "keeps 2 7 locked:c=1:1", "begun 1 9 1.0 x", "begun 1 7 1.0 alice", "begun 1 7 1.0 again", "keeps 1 7 locked:d=1:1 locked:c=2:30",
                      "keeps 1 7 locked:c=9:99"):
             self.seen.hear_hint(text.split(" "))
@@ -148,7 +158,8 @@ class Believes(support.RoomTest):
         for note in ("committed before 7", "committed before 7"):  # the first answer was lost with its filter
             self.seen.hear(Answer(sends=[f"committed 1 1 7 locked:c=1:{'a' * 64} mac"], note=note))
         self.assertEqual(self.told(), [("ask", 1, 0, ""), ("grant", 1, 7, ""), ("begin", 1, 7, "alice"), ("commit", 1, 7, "alice")])
-        self.assertEqual(next(self.history.events()).versions, {"locked:c": (1, 2, 30)})
+        last = next(self.history.events())
+        self.assertEqual((last.versions, last.hits, event_of(line_of(last))), ({"locked:c": (1, 2, 30)}, {"locked:c": (8, 9)}, last))
 
     def test_ends(self) -> None:
         """Each end of a lease, the commits that come after it, and asks that wait."""
@@ -171,6 +182,39 @@ class Believes(support.RoomTest):
         grants = [each for ticket in (1, 2, 3, 4) for each in (("ask", 1, 0, ""), ("grant", 1, ticket, ""))]
         self.assertEqual(self.told(), [*grants, ("withdraw", 1, 1, ""), ("fence", 1, 1, ""), ("release", 1, 2, ""), ("ask", 2, 0, ""), ("wait", 2, 0, ""), ("lost", 1, 3, ""),
                                        ("grant", 2, 6, "bob"), ("lost", 1, 4, ""), ("lost", 2, 6, "bob"), ("retire", 2, 0, ""), ("prune", 0, 8, "")])
+
+    def test_left(self) -> None:
+        """An ask that was given up says so once, also over a restart, and what comes of it later isn't its waiting."""
+        for ask in (5, 6):
+            self.seen.take(f"acquire 2 1 {ask} locked:c mac", "parked")
+        self.seen.hear_hint("waits 2 1 5 0.5 bob".split(" "))
+        for text in ("left 1 1 5", "left 2 2 5", "left 2 1 9", "left 2 1 5 9", "left 2 1 5"):
+            self.seen.hear_hint(text.split(" "))
+        found = next(self.history.events())
+        self.assertEqual((found.kind, found.folders, found.who, found.ask), ("leave", ("locked:c",), "bob", 5))
+        self.assertIsNotNone(found.waited)
+        ready(self.history)
+        self.history = History(self.path("history"), lambda text: None)
+        self.addCleanup(self.history.close)
+        self.seen = seen.Seen(self.history)
+        waiting = tuple(Waiting(kind="acquire", node=2, life=1, ask=ask, folders=("locked:c",), left=False) for ask in (5, 6))
+        self.seen.begin(Status(leases=(), waiting=waiting, folders=(), lives={}, gone=(), retired=(), tickets=0, heard={}, now=0.0))
+        self.assertEqual(self.seen.asked(2, 1, 6)[0], next(self.history.events('"wait"', '"ask":6')).at)
+        self.seen.hear_hint("left 2 1 5".split(" "))
+        self.seen.hear(Answer(sends=[f"granted 2 1 5 6 plain locked:c=0:{'0' * 64} mac"], note="nothing"))
+        self.assertIsNone(next(self.history.events()).waited)
+        self.seen.take("hello 2 2 mac", "nothing")
+        self.seen.take("acquire 2 2 1 locked:c mac", "parked")
+        self.seen.hear(Answer(note="retired 2"))
+        kinds = [(event.kind, event.ask) for event in reversed(list(self.history.events())) if event.kind in ("leave", "grant")]
+        self.assertEqual(kinds, [("leave", 5), ("grant", 5), ("leave", 6), ("leave", 1)])
+
+    def test_together(self) -> None:
+        """An ask that was granted by a line that came together with it is one, and doesn't wait."""
+        self.grant(1, 7)
+        self.seen.take("acquire 1 1 7 locked:c mac", "parked")
+        self.assertEqual([each[0] for each in self.told()], ["ask", "grant"])
+        self.assertEqual(self.seen.asks, {})
 
     def test_lost_answer(self) -> None:
         """A commit whose answer was lost with its filter counts when it is told again, also where another one has the folder by then."""
@@ -201,6 +245,75 @@ class Believes(support.RoomTest):
         self.assertEqual(self.told(), [])
 
 
+CCACHE = """#!/bin/sh
+echo "$* $CCACHE_DIR $CCACHE_CONFIGPATH" >>%s
+set -- $(cat $CCACHE_DIR/*/stats $CCACHE_DIR/*/*/stats 2>/dev/null)
+printf 'direct_cache_hit\\t%%s\\npreprocessed_cache_hit\\t%%s\\ncache_miss\\t%%s\\nstats_updated_timestamp\\t7\\n' $1 $2 $3
+"""
+
+
+def told_hits(hits: int, preprocessed: int, missed: int) -> str:
+    """The counters of the stand-in."""
+    return f"{hits}\n{preprocessed}\n{missed}\n"
+
+
+class Hits(support.RoomTest):
+    """What ccache counts: a stand-in for it tells what stands in its folder, and notes each call."""
+
+    def setUp(self) -> None:
+        super().setUp()
+        os.chmod(self.write("bin/ccache", CCACHE % self.path("calls")), 0o755)
+
+    def test_counts(self) -> None:
+        files: list[tuple[dict[str, str], hits.Counts | None, bool]] = [
+            ({}, hits.Counts(0, 0), False), ({"0/x": "1", "stats": told_hits(1, 1, 1), "config": ""}, hits.Counts(0, 0), False), ({"0/stats": told_hits(5, 2, 3)}, hits.Counts(7, 10), True),
+            ({"f/a/stats": told_hits(0, 0, 3)}, hits.Counts(0, 3), True), ({"0/stats": "1\n2\n"}, None, True), ({"0/stats": "of a program\n"}, None, False), ({"0/stats": "", "1/stats": "1\n1\n1\n"}, None, False),
+        ]
+        with mock.patch.dict("os.environ", {"PATH": f"{self.path('bin')}:{os.environ['PATH']}"}):
+            for number, (texts, wanted, is_called) in enumerate(files):
+                for name, text in texts.items():
+                    self.write(f"{number}/{name}", text)
+                self.write("calls", "")
+                self.assertEqual(counts(self.path(f"{number}")), wanted, texts)
+                self.assertEqual(self.read("calls"), f"--print-stats {self.path(f'{number}')} /dev/null\n" if is_called else "", texts)
+            self.write("calls", "")
+            os.symlink(self.path("2/0/stats"), self.write("9/0/x", "")[:-1] + "stats")  # a program of the command's made these
+            os.mkfifo(f"{os.path.dirname(self.write('8/0/x', ''))}/stats")
+            self.assertEqual([counts(self.path(name)) for name in ("8", "9")], [None, None])
+            self.assertEqual(self.read("calls"), "")
+            self.write("bin/ccache", "#!/bin/sh\nexit 1\n")
+            self.assertIsNone(counts(self.path("2")))
+        with mock.patch.dict("os.environ", {"PATH": "/nowhere"}):
+            self.assertEqual([counts(self.path(name)) for name in ("1", "2")], [hits.Counts(0, 0), None])
+
+    def test_steps(self) -> None:
+        """What a build says goes on unchanged, and its steps are counted, in whatever pieces it comes; also where nobody reads it."""
+        said = (
+            "#1 [internal] load build definition from Dockerfile\n#1 DONE 0.0s\n\n#4 [linux/amd64 base 1/3] FROM box\n#4 CACHED\n\n#5 [base 2/3] RUN true\n#5 CACHED\r\n"
+            "#6 [base 3/3] RUN echo '#7 CACHED'\n#6 0.1 #7 CACHED\n#6 DONE 0.2s\n#8 [stage-1 1/1] COPY --from=base /x /x\n#8 CACHED\n#9 exporting\n"
+        )
+        for size in (1, 7, 4096):
+            progress, (source, to) = Progress(), os.pipe()
+            with heard([0, 1, to], progress.hear, lambda: False) as streams:
+                for at in range(0, len(said), size):
+                    os.write(streams[2], said[at : at + size].encode())
+            os.close(to)
+            with open(source, "rb") as file:
+                self.assertEqual((file.read().decode(), progress.counts()), (said, hits.Counts(2, 3)))
+        source, to = os.pipe()
+        os.close(source)
+        with heard([0, 1, to], progress.hear, lambda: True) as streams, self.assertRaises(BrokenPipeError):
+            while True:
+                os.write(streams[2], b"x" * 1000)
+        os.close(to)
+        self.assertIsNone(Progress().counts())
+
+    def test_since(self) -> None:
+        rows = [((0, 0), (3, 4), (3, 4)), ((3, 4), (5, 9), (2, 5)), ((3, 4), (3, 4), None), ((3, 4), (0, 1), None), ((3, 4), (9, 5), None), (None, (1, 1), None), ((1, 1), None, None)]
+        for before, after, wanted in rows:
+            self.assertEqual(since(before and hits.Counts(*before), after and hits.Counts(*after)), wanted, (before, after))
+
+
 class Words(unittest.TestCase):
     def test_who(self) -> None:
         rows = (
@@ -212,6 +325,14 @@ class Words(unittest.TestCase):
                 self.assertEqual(who_of(own_word()), who)
         with mock.patch.dict("os.environ", {}, clear=True):
             self.assertRegex(own_word(), r"\A[^@]+@[^@]+\Z")
+
+    def test_fenced_again(self) -> None:
+        """A commit that was fenced counts once, however often it comes."""
+        counts = Counts()
+        measured = Measured(counts, SILENT)
+        for note in ("fenced 7", "fenced 7", "fenced 8"):
+            measured.answered(Answer(note=note))
+        self.assertEqual([each.value for each in counts.told() if each.labels.get("how") == "fenced"], [2])
 
     def test_usual(self) -> None:
         rows: list[list[float | None]] = [[], [None], [1.0], [5.0, 1.0, None, 2.0], [1.0, 2.0]]
@@ -259,6 +380,20 @@ class OfAFarm(support.FarmTest):
         for words, status in ((["why", "locked:none"], 70), (["why", "x"], 64), (["history", "x"], 64), (["history", "--since", "soon"], 64), (["run", "--as", "a b", "true"], 64)):
             with contextlib.redirect_stderr(io.StringIO()):
                 self.asked(*words, status=status)
+
+    def test_hits(self) -> None:
+        """What ccache had for a command stands where its lease ends, also of one that failed, and of a merged folder."""
+        os.chmod(self.write("bin/ccache", CCACHE % self.path("calls")), 0o755)
+        self.env["PATH"] = f"{self.path('bin')}:{os.environ['PATH']}"
+        self.up("up", "--nodes", "1")
+        for number, (folder, counted, status) in enumerate((("locked:c", (0, 0, 3), 0), ("locked:c", (4, 1, 4), 0), ("locked:c", (9, 1, 4), 7), ("merged:c", (5, 1, 5), 0), ("locked:d", (), 0))):
+            text = self.write(f"{number}", told_hits(*counted) if counted else "")
+            self.farm("run", "--folder", f"{folder}=w", "--", "sh", "-c", f"mkdir -p w/0; cp {text} w/0/{'stats' if counted else 'x'}; exit {status}", status=status)
+        found = [(event["kind"], event.get("hits")) for event in self.events() if event["kind"] in ("commit", "release")]
+        wanted = [[0, 3], [5, 6], [5, 5], [1, 2]]
+        self.assertEqual(found, [(kind, {"locked:c": hits}) for kind, hits in zip(("commit", "commit", "release", "commit"), wanted)] + [("commit", None)])
+        self.assertRegex(self.asked("history", "locked:c"), r"(?m)^20[^ ]*Z node 1 commit locked:c version 2 .* held [0-9.]+ s 5 of 6 hits$")
+        self.assertEqual([each["hits"] for each in json.loads(self.asked("log", "--json", "locked:c"))["locked:c"]], [wanted[0], wanted[1], wanted[3]])
 
     def test_without(self) -> None:
         """A farm whose history can't be written goes on, and tells what it saw since it began."""

@@ -2,6 +2,7 @@
 from __future__ import annotations
 
 import contextlib
+import json
 import os
 import socket
 import sys
@@ -9,12 +10,15 @@ import tempfile
 import threading
 import time
 import unittest
+from typing import Any
 from unittest import mock
 
 from agent import tools
 from agent.faults import FarmFault, LifeOver, Missing
 from agent.filters.lines import Answer, Filter, FilterGone, Pauses, Talk, line_of
-from agent.service.carried import written
+from agent.service import client, sockets
+from agent.service.carried import BadRequest, read, written
+from agent.service.operators import Status, StatusRequest, Version
 from agent.service.requests import StoreRequest
 from agent.service.sockets import Connection, Service
 
@@ -197,6 +201,38 @@ class Sockets(support.RoomTest):
             link.recv(1, socket.MSG_PEEK)
         self.assertTrue(gone.wait(support.PATIENCE))
         support.until(lambda: service.used > begun)
+
+    def test_versions(self) -> None:
+        """An agent of another version is understood as far as both know the words; of a request each word has to be known."""
+        known: dict[str, Any] = {
+            "leases": [], "waiting": [{"kind": "acquire", "node": 1, "life": 1, "ask": 1, "folders": ["locked:c"], "left": False}], "folders": [],
+            "lives": {}, "gone": [], "retired": [], "tickets": 4, "heard": {}, "now": 5,
+        }
+        newer = [{**known["waiting"][0], "colour": {"of": ["it"]}}]
+
+        def tells(asked: object, link: Connection) -> int:
+            link.tell(asked)
+            return 0
+
+        rows: list[tuple[dict[str, Any], str]] = [
+            (known, ""), (known | {"shape": [1, 2], "waiting": newer}, ""), (known | {"tickets": "4"}, "tells no Status: does another version of it run"),
+            ({name: value for name, value in known.items() if name != "tickets"}, "tells no Status"), (known | {"kind": "Colours"}, "tells no Status"),
+        ]
+        for told, said in rows:
+            with self.subTest(told), mock.patch.object(sockets, "written", lambda what: json.dumps({"kind": "Status"} | told)):
+                service = Service(self.path("s"), tells)
+                threading.Thread(target=service.serve, daemon=True).start()
+                try:
+                    status = client.told_at(self.path("s"), StatusRequest(), Status, shows=False)
+                    self.assertEqual((said, status.tickets, status.versions, status.waiting[0].who), ("", 4, 0, ""))
+                except FarmFault as fault:
+                    self.assertIn(said or "none", str(fault))
+                service.close()
+        version = Version(version=1, ticket=2, digest="d", files=3)
+        self.assertEqual(json.loads(written(version)), {"kind": "Version", "version": 1, "ticket": 2, "digest": "d", "files": 3})
+        self.assertEqual(read(written(version), is_told=True), version)
+        with self.assertRaisesRegex(BadRequest, "StatusRequest has no colour"):
+            read(json.dumps({"kind": "StatusRequest", "last": 1, "colour": 1}))
 
 
 if __name__ == "__main__":

@@ -3,6 +3,7 @@ from __future__ import annotations
 
 import hashlib
 import hmac
+import json
 import os
 import re
 import shutil
@@ -210,6 +211,41 @@ class Older(support.RoomTest):
         self.assertGreater(int(re.findall(r"granted 1 1 3 ([0-9]+) ", said)[0]), 2)
         lives = [int(self.talk(program, *node).rpartition("= life ")[2]) for program in (old, now)]
         self.assertGreater(lives[1], lives[0])
+
+
+@unittest.skipUnless(support.has("casync") and support.has("git"), support.needs("casync and git"))
+class OlderAgents(support.FarmTest):
+    """An upgrade goes one process at a time: commands of this version ask agents of earlier ones, and those of the last release this one's."""
+
+    def older(self, commit: str) -> list[str]:
+        """The words of that commit's `farm`."""
+        top = self.path(f"top{commit}")
+        os.mkdir(top)
+        archive = subprocess.run(["git", "-C", support.TOP, "archive", commit, "agent", "farm", "farmctl", "release"], capture_output=True, check=True)
+        subprocess.run(["tar", "-x", "-C", top], input=archive.stdout, check=True)
+        return [sys.executable, "-IS", f"{top}/farm"]
+
+    def test_upgrade(self) -> None:
+        commits = subprocess.run(["git", "-C", support.TOP, "log", "--format=%h", "--", "release/farmd"], capture_output=True, text=True).stdout.split()
+        if not commits:
+            self.skipTest("this checkout has no history of releases")
+        present = self.env["FARMCTL"]
+        for commit in reversed(commits):
+            self.env |= {"FARM_HOME": self.path(f"home{commit}"), "FARMCTL": f"{self.path(f'top{commit}')}/release/farmd"}
+            with self.subTest(commit), mock.patch.object(support, "FARM", older := self.older(commit)):
+                self.up("up", "--nodes", "1")
+                self.farm("run", "--folder", f"locked:c=w{commit}", "--", "touch", f"w{commit}/f")
+                status, log = (json.loads(self.asked(*words)) for words in (["status", "--json"], ["log", "--json", "locked:c"]))
+                self.assertEqual((status["folders"][0]["version"], [each["version"] for each in log["locked:c"]]), (1, [1]))
+                self.assertIn("locked:c is at version 1", self.asked("status"))
+                self.end()
+                self.ups = []
+        self.env |= {"FARM_HOME": self.home, "FARMCTL": present}
+        self.up("up", "--nodes", "1")
+        self.farm("run", "--folder", "locked:c=v", "--", "sh", "-c", "echo >>v/f")
+        for words in (["status", "--json"], ["status"], ["log", "locked:c"], ["history"]):
+            done = subprocess.run([*older, *words], env=self.env, capture_output=True, text=True, timeout=support.PATIENCE)
+            self.assertEqual((done.returncode, done.stderr), (0, ""), words)
 
 
 if __name__ == "__main__":

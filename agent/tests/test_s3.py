@@ -156,22 +156,21 @@ class Over(support.FarmTest):
     def keys(self, store: S3Store, front: str) -> list[str]:
         return [each.key for each in store.bucket.listed(front)[1]]
 
+    def commit(self, store: S3Store, index: bytes) -> None:
+        with store.making():
+            make_whole(store, self.path("tree"))
+            store.publish(index)
+
+    def check_readable(self, name: str, digest: str) -> None:
+        store = self.store(name)
+        trees.extract(store, store.index(digest) or b"", self.path(f"{name}-out"))
+        self.assertEqual(self.read(f"{name}-out/f"), "text" * 1000)
+
     def test_held(self) -> None:
         """Nothing of a commit under way is forgotten, whatever the clock says, at whatever moment it begins."""
         maker, other = self.store("a", "1"), self.store("b")
         index, digest = support.kept(maker, self.path("tree"))
-
-        def commit(store: S3Store) -> None:
-            with store.making():
-                make_whole(store, self.path("tree"))
-                store.publish(index)
-
-        def readable(name: str) -> None:
-            store = self.store(name)
-            trees.extract(store, store.index(digest) or b"", self.path(f"{name}-out"))
-            self.assertEqual(self.read(f"{name}-out/f"), "text" * 1000)
-
-        commit(maker)
+        self.commit(maker, index)
         self.assertEqual(other.forget(set, EVER), (0, 0))
         maker.release(digest)
         self.assertEqual(self.keys(maker, "held/"), [])
@@ -179,25 +178,31 @@ class Over(support.FarmTest):
 
         def before_told(key: str, data: bytes) -> None:
             if data:
-                commit(maker)
+                self.commit(maker, index)
             put(key, data)
 
         def after_looked(keys: list[str]) -> None:
             if are_contents(keys):
-                commit(late)
+                self.commit(late, index)
             deletes(keys)
 
         with mock.patch.object(other.bucket, "put", before_told):  # it begins before what is to go is told
             self.assertEqual(other.forget(set, EVER), (0, 0))
-        readable("c")
+        self.check_readable("c", digest)
         maker.release(digest)
         late = self.store("late", "2")
         with mock.patch.object(other.bucket, "delete", after_looked):  # it begins when what is to go is told, and what is held was read
             self.assertEqual(other.forget(set, EVER), (1, 1))
-        readable("d")
+        self.check_readable("d", digest)
         self.assertEqual(other.forget(set, EVER), (0, 0))
-        late.release(digest)
-        about = list[str]()
+
+    def test_killed_forgetter(self) -> None:
+        """What a killed one was about to delete may be deleted yet: no commit relies on it, and it is told as long as another one forgets."""
+        maker, other = self.store("a", "1"), self.store("b")
+        index, digest = support.kept(maker, self.path("tree"))
+        self.commit(maker, index)
+        maker.release(digest)
+        about, deletes = list[str](), other.bucket.delete
 
         def killed(keys: list[str]) -> None:
             if are_contents(keys):
@@ -205,25 +210,24 @@ class Over(support.FarmTest):
                 raise KeyboardInterrupt
             deletes(keys)
 
-        with mock.patch.object(other.bucket, "delete", killed), self.assertRaises(KeyboardInterrupt):
-            other.forget(set, EVER)
-        again = self.store("late", "2")  # of the one before nothing is held once a commit of this one was answered
-        commit(again)
-        again.release(digest)
-        self.assertEqual(self.keys(maker, "held/"), [])
-        commit(again)
-        other.bucket.put(f"chunk/{'0' * 64}", b"of an agent that was killed")
-
         def after_killed(keys: list[str]) -> None:
-            """What the killed one was about to delete may be deleted yet, and is told as long as another one forgets."""
             if are_contents(keys):
                 self.assertLess(set(about), other._forgetters().keys)
                 deletes(about)
             deletes(keys)
 
+        with mock.patch.object(other.bucket, "delete", killed), self.assertRaises(KeyboardInterrupt):
+            other.forget(set, EVER)
+        self.commit(self.store("late", "2"), index)
+        again = self.store("late", "2")  # of the process before nothing is held once a commit of this one was answered
+        self.commit(again, index)
+        again.release(digest)
+        self.assertEqual(self.keys(maker, "held/"), [])
+        self.commit(again, index)
+        other.bucket.put(f"chunk/{'0' * 64}", b"of an agent that was killed")
         with mock.patch.object(other.bucket, "delete", after_killed):
             self.assertEqual(other.forget(set, EVER), (0, 1))
-        readable("e")
+        self.check_readable("e", digest)
         again.release(digest)
         other.forget(set, EVER)
         self.assertEqual([self.keys(maker, kind) for kind in ("chunk/", "index/")], [[], []])

@@ -273,6 +273,32 @@ class OverRedis(Carries):
             self.assertEqual(later.server.call("HLEN", "t:held"), 0)
             self.assertEqual(other.forget(set, -(10**9))[0], 1)
 
+    @unittest.skipUnless(support.has("casync"), support.needs("casync"))
+    def test_busy(self) -> None:
+        """Where commits come all the time it forgets all the same, and nothing of what they name."""
+        with support.redis_server(self.room) as url:
+            maker, other = RedisStore(url, self.path("a"), "t", "1"), RedisStore(url, self.path("b"), "t")
+            for name in "abc":
+                self.write(f"{name}/f", name * 300_000)
+            made = [support.kept(maker, self.path(name)) for name in "abc"]
+            kept, begun, told = other._kept, list[str](), list[str]()
+
+            def busy(kind: str) -> list[str]:
+                names = kept(kind)
+                begun.append(kind)
+                maker.server.call("INCR", "t:holds")  # a commit of something else
+                if kind == "chunk":
+                    maker.publish(made[1][0])
+                    maker.server.call("DEL", f"t:index:{made[1][1]}")  # as before it is given: what is held says its chunks
+                return names
+
+            with mock.patch.object(other, "_kept", busy):
+                indexes, chunks = other.forget(set, -(10**9), told.append)
+            self.assertEqual((indexes, begun, told), (3, ["index", "chunk"], []))
+            self.assertEqual(chunks, len({name for at in (0, 2) for name in chunk_names(made[at][0])} - set(chunk_names(made[1][0]))))
+            trees.extract(RedisStore(url, self.path("c"), "t"), made[1][0], self.path("out"))
+            self.assertEqual(self.read("out/f"), "b" * 300_000)
+
     def test_password(self) -> None:
         with support.redis_server(self.room, "--requirepass", "a b") as url:
             with self.assertRaisesRegex(Missing, "the Redis server at redis://127.0.0.1:[0-9]+ refuses: NOAUTH"):

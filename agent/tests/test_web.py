@@ -51,9 +51,11 @@ def events(folders: int, count: int, now: float) -> list[Event]:
         how = "withdraw" if last == "fence" else last
         whole = Event("ask", at=at - waited, node=turn % 4 + 1, ask=turn, folders=(folder,))
         made += [whole, whole._replace(kind="grant", at=at, ticket=turn + 1, waited=waited), whole._replace(kind="begin", at=at, ticket=turn + 1, who=f"ci-{turn}")]
+        made += [whole._replace(kind="leave", at=at + held, node=2, ask=turn, who="impatient", waited=held * 0.7)] if turn % 12 == 5 else []
         made.append(whole._replace(
             kind=how, at=at + held, ticket=turn + 1, who=f"ci-{turn}", waited=waited, held=held,
             versions={folder: (turn // folders + 1, 40 + turn, 1_000_000 + 4000 * turn)} if how == "commit" else {},
+            hits={folder: (90 + turn % 10, 100)} if turn % 3 == 0 else {},
         ))
         made += [made[-1]._replace(kind="fence", held=None, waited=None)] if last == "fence" else []
     return [event._replace(number=number) for number, event in enumerate(made, 1)]
@@ -240,6 +242,7 @@ class InBrowser(Served):
         browser.value("wanted.value = 'cache07'; wanted.dispatchEvent(new Event('input'))")
         self.assertEqual(browser.value("shown"), ["locked:cache07"])
         found = browser.value("(() => { const span = rows.get('locked:cache07').spans.at(-1); look(span.from - 5, span.to + 5); return under(NAMES + 300, AXIS + 10); })()")
+        self.assertEqual("hits" in found, browser.value("rows.get('locked:cache07').spans.at(-1).of === 100"))
         self.assertRegex(found, r"\Alocked:cache07\nnode [1-4], by ci-[0-9]+\n[a-z ]+[^\n]*, ticket [0-9]+\n20[^\n]*, for [0-9.]+ (s|min)")
         browser.key("?")
         if os.environ.get("FARM_PICTURE"):
@@ -247,6 +250,17 @@ class InBrowser(Served):
             browser.picture(os.environ["FARM_PICTURE"])
             browser.key("?")
         self.assertIn("after its lease had ended", browser.value("document.querySelector('dialog[open]').textContent"))
+
+    def test_left(self) -> None:
+        """An ask that was given up has the bar of its waiting up to then, and the one that still stands for it none."""
+        now = time.time()
+        browser = self.browser()
+        browser.open(f"http://127.0.0.1:{self.serve(told(1, 0), events=[Event('leave', number=1, at=now - 30, node=1, folders=('locked:c',), who='bob', waited=20.0)])}/")
+        self.assertTrue(browser.wait("rows.size === 1"))
+        browser.value("look(told.now - 60, told.now)")
+        texts = browser.value("[-40, -10].map(ago => under(NAMES + (60 + ago) / 60 * (past.clientWidth - NAMES), AXIS + 10))")
+        self.assertRegex(texts[0], r"\Alocked:c\nnode 1, by bob\ngave up at 20[^\n]*\nwaited 20 s\Z")
+        self.assertEqual(texts[1], "")
 
     def test_strange_past(self) -> None:
         """What is no event is skipped, markup stays text, and a history that began anew is taken anew."""

@@ -5,6 +5,7 @@ it begins; what came before is sent again by those who want an answer. Nobody wh
 """
 from __future__ import annotations
 
+import contextlib
 import queue
 import threading
 import time
@@ -24,8 +25,8 @@ def _order(place: bytes) -> tuple[int, ...]:
 
 
 class RedisTransport:
-    def __init__(self, url: str, farm: str = "farm") -> None:
-        self.server = Redis(url)
+    def __init__(self, server: str | Redis, farm: str = "farm") -> None:
+        self.server = Redis(server) if isinstance(server, str) else server
         self.farm = farm
         self.places: dict[str, bytes] = {}
         self.here: dict[str, deque[str]] = {}  # lines that came together
@@ -37,11 +38,12 @@ class RedisTransport:
         return f"{self.farm}:to:{address}"
 
     def send(self, address: str, line: str) -> None:
-        try:
-            if len(line) <= MOST:
-                self.outbox.put_nowait((address, line))
-        except queue.Full:
-            pass  # it is lost, and sent again by whoever misses the answer
+        while len(line) <= MOST:
+            try:
+                return self.outbox.put_nowait((address, line))
+            except queue.Full:  # the oldest one is lost, and sent again by whoever misses the answer
+                with contextlib.suppress(queue.Empty):
+                    self.outbox.get_nowait()
 
     def _send_all(self) -> None:
         """Sends what is there, together, for ever."""

@@ -35,6 +35,15 @@ class RedisAway(RedisFault):
     """The server can't be reached."""
 
 
+class RedisLate(RedisAway):
+    """The server doesn't answer in time."""
+
+
+def is_away(fault: Exception) -> bool:
+    """Whether a server that can't do anything now may do it later."""
+    return isinstance(fault, RedisAway) or str(fault).startswith("LOADING")
+
+
 def signed_in(url: str, password: str) -> str:
     """A server's address with this password, where it names a user without one."""
     try:
@@ -49,9 +58,9 @@ def signed_in(url: str, password: str) -> str:
 class Link:
     """One connection. After a fault on the line it is of no use."""
 
-    def __init__(self, url: urllib.parse.SplitResult) -> None:
+    def __init__(self, url: urllib.parse.SplitResult, patience: float) -> None:
         host = url.hostname or "127.0.0.1"
-        made = socket.create_connection((host, url.port or 6379), PATIENCE)
+        made = socket.create_connection((host, url.port or 6379), patience)
         made.setsockopt(socket.IPPROTO_TCP, socket.TCP_NODELAY, 1)
         if url.scheme == "rediss":
             made = ssl.create_default_context().wrap_socket(made, server_hostname=host)
@@ -121,12 +130,17 @@ def spelled(command: Sequence[Word]) -> bytes:
 
 
 class Redis:
-    """A server, for any number of threads: each call has a connection of its own while it lasts."""
+    """A server, for any number of threads: each call has a connection of its own while it lasts. `lock` has what idles, and `breaks`."""
 
-    def __init__(self, url: str) -> None:
-        """Tries the server once, and again while it says that it loads its data."""
+    patience = PATIENCE
+    breaks = 0  # connections that ended: each time the server may have lost what it had
+
+    def __init__(self, url: str, must_answer: bool = True, patience: float = PATIENCE) -> None:
+        """Tries the server once, and again while it says that it loads its data; or not at all. With less patience nothing is asked again that
+        wasn't answered in time."""
         self.idle: list[Link] = []
         self.lock = threading.Lock()
+        self.patience = patience
         try:
             self.url = urllib.parse.urlsplit(url)
             _ = self.url.port  # it is read only now
@@ -134,12 +148,17 @@ class Redis:
             raise UsageFault("the broker's URL can't be read: it is redis://[USER:PASSWORD@]HOST[:PORT], with %23 for a # and the like") from None
         if self.url.scheme not in ("redis", "rediss"):
             raise UsageFault("a broker is named as redis://HOST or rediss://HOST")
+        self.where = f"{self.url.scheme}://{self.url.netloc.rpartition('@')[2]}"  # without the password
+        if must_answer:
+            self.greet()
+
+    def greet(self) -> None:
         try:
             self._greet(time.monotonic() + LOADS)
         except RedisFault as why:
-            where = f"{self.url.scheme}://{self.url.netloc.rpartition('@')[2]}"  # without the password
-            is_away = isinstance(why, RedisAway)
-            raise Missing(f"no Redis server answers at {where}: {why}" if is_away else f"the Redis server at {where} refuses: {why}") from None
+            if isinstance(why, RedisAway):
+                raise Missing(f"no Redis server answers at {self.where}: {why}") from None
+            raise Missing(f"the Redis server at {self.where} refuses: {why}") from None
 
     def _greet(self, late: float) -> None:
         while True:
@@ -158,8 +177,8 @@ class Redis:
             idle = self.idle.pop() if self.idle else None
         try:
             replies = self._exchange(idle, commands, most)
-        except RedisFault:
-            if idle is None:
+        except RedisFault as fault:
+            if idle is None or isinstance(fault, RedisLate) and self.patience < PATIENCE:
                 raise
             replies = self._exchange(None, commands, most)  # the server may have ended what idled
         for reply in replies:
@@ -170,14 +189,15 @@ class Redis:
     def _exchange(self, link: Link | None, commands: Sequence[Sequence[Word]], most: int) -> list[Reply]:
         """The replies over a link, a new one where none is given."""
         try:
-            link = link or Link(self.url)
+            link = link or Link(self.url, self.patience)
             replies = link.calls(commands, most)
         except RedisRefuses:
             self._drop(link)
             raise
         except (OSError, ValueError, RedisFault) as why:
             self._drop(link)
-            raise RedisAway(getattr(why, "strerror", None) or str(why) or type(why).__name__) from None
+            kind = RedisLate if isinstance(why, TimeoutError) else RedisAway
+            raise kind(getattr(why, "strerror", None) or str(why) or type(why).__name__) from None
         except BaseException:
             self._drop(link)
             raise
@@ -193,6 +213,7 @@ class Redis:
         """Closes a connection that failed, and those that idle beside it: the server may have been started anew."""
         with self.lock:
             old, self.idle = self.idle, []
+            self.breaks += 1
         for each in [*old, *([link] if link else [])]:
             each.close()
 

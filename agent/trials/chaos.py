@@ -31,6 +31,7 @@ sys.path.insert(0, str(Path(__file__).resolve().parents[2]))
 from agent.store.chunks import chunk_names  # noqa: E402
 from agent.runs.executions import can_have_namespaces  # noqa: E402
 from agent.faults import FarmFault  # noqa: E402
+from agent.store.brokers import BrokersStore  # noqa: E402
 from agent.store.redis import RedisStore  # noqa: E402
 from agent.store.folder import FolderStore, Store  # noqa: E402
 from agent.trials.farms import PYTHON_FARM, Attacker, Farm, Machines, OverRedis, OverS3, Pipes, kill  # noqa: E402
@@ -71,19 +72,23 @@ class Given:
     wrong: str | None
     builds: float
     verbose: bool
+    brokers: int = 1
 
 
 class Chaos:
     def __init__(self, given: Given, room: str) -> None:
         self.given, self.room = given, room
         self.dice = random.Random(given.seed)
-        self.deck: tuple[str, ...] = DECK
+        self.deck: tuple[str, ...] = DECK + ("redis",) * (len(DECK) // 2 if given.brokers > 1 else 0)
         self.counts: Counter[str] = Counter()
         self.told: list[Told] = []
         self.clients: dict[str, subprocess.Popen[str]] = {}
         self.lock = threading.Lock()
         self.stopping = threading.Event()
-        self.farm: Farm = KINDS[given.over](f"{room}/farm", NODES, given.seed, given.wrong)
+        kind, words = KINDS[given.over], (f"{room}/farm", NODES, given.seed, given.wrong)
+        self.farm: Farm = kind(*words, given.brokers) if issubclass(kind, OverRedis) else kind(*words)
+        self.breaking = threading.Thread()  # one of several brokers is away meanwhile
+        self.turn = 0  # of brokers
         self.attacker: Attacker | None = None
         self.spoilt: dict[int, set[str]] = {node: set() for node in range(1, NODES + 1)}  # chunks that were spoilt in each node's home
         self.spoilt_objects: set[str] = set()  # of the bucket
@@ -218,8 +223,7 @@ class Chaos:
             farm.set_clocks(dice.choice(JUMPS[:3] if isinstance(farm, OverS3) else JUMPS))  # S3 refuses what was signed at another quarter of an hour
             self.count("clocks set")
         elif what == "redis" and isinstance(farm, OverRedis):
-            farm.kill_redis(dice.random() * 2)
-            self.count("Redis killed")
+            self.break_broker(farm)
         elif what == "store" and isinstance(farm, OverS3):
             farm.trouble(how := dice.choice(["503", "slow 0.5", "slow 5"]), dice.uniform(1, 6))
             self.count(f"times that the bucket answered {how}")
@@ -231,6 +235,20 @@ class Chaos:
             farm.cut(dice.randrange(2, NODES + 1), dice.uniform(1, 9))
             self.count("cables cut")
             self.counts["commits told while a cable was cut"] += self.commits() - before
+
+    def break_broker(self, farm: OverRedis) -> None:
+        """Kills the broker, or of several the next one, or has that hang, while all else goes on."""
+        if len(farm.ports) == 1:
+            farm.kill_redis(self.dice.random() * 2)
+            return self.count("Redis killed")
+        if self.breaking.is_alive():
+            return None
+        self.turn = (self.turn + 1) % len(farm.ports)
+        how = self.dice.choice(["killed", "stopped"])
+        does = farm.kill_redis if how == "killed" else farm.hang_redis
+        self.breaking = threading.Thread(target=does, args=(self.dice.uniform(1, 8), self.turn))
+        self.breaking.start()
+        return self.count(f"times that broker {self.turn + 1} was {how}")
 
     def spoil_chunk(self, node: int) -> None:
         """Zeroes a chunk of a node's home, flips a bit, or puts another one in its place: one that another node has as well."""
@@ -342,6 +360,8 @@ class Chaos:
         self.stopping.wait(self.given.seconds)
         self.stopping.set()
         saboteur.join()
+        if self.breaking.ident:
+            self.breaking.join()
         if self.attacker:
             self.attacker.stop()
         self.join(workers)
@@ -382,8 +402,12 @@ class Chaos:
         if isinstance(self.farm, OverS3):
             made = [Copy("the bucket", self.farm.contents, True, "", self.spoilt_objects)]
         else:
-            fresh = RedisStore(self.farm.url, f"{self.room}/fresh", self.farm.farm)
-            made = [Copy("Redis", fresh, True, self.farm.farm, spoilt)]
+            urls = self.farm.urls("127.0.0.1")
+            made = [
+                Copy(f"broker {number + 1}" if urls[1:] else "Redis", RedisStore(url, f"{self.room}/fresh{number}", self.farm.farm), not urls[1:], self.farm.farm, spoilt)
+                for number, url in enumerate(urls)
+            ]
+            made += [Copy("all brokers", BrokersStore(urls, f"{self.room}/fresh", self.farm.farm), True, self.farm.farm, spoilt)] if urls[1:] else []
         for node in range(1, NODES + 1):
             made.append(Copy(f"node {node}", FolderStore(f"{self.farm.home(node)}/contents"), False, "", self.spoilt[node]))
         return made
@@ -410,10 +434,11 @@ def words() -> Given:
     made.add_argument("--wrong", choices=["early", "stale", "unsealed"], help="an agent that commits before contents are kept, or "
                       "that takes what stands at a path for what it was, or, of the stand-in alone, filters that check no seals: the trial has to fail")
     made.add_argument("--builds", type=float, default=0.1, help="the share of builds (%(default)s)")
+    made.add_argument("--brokers", type=int, default=1, metavar="N", help="over so many brokers, each of which is killed or stopped in turn (%(default)s)")
     made.add_argument("--verbose", action="store_true", help="keeps the folder, and says where it is")
     args = made.parse_args()
     can_build = os.geteuid() == 0 and can_have_namespaces() and shutil.which("buildah") and shutil.which("busybox")
-    return Given(args.seconds, args.seed, args.over, args.wrong, args.builds if can_build else 0.0, args.verbose)
+    return Given(args.seconds, args.seed, args.over, args.wrong, args.builds if can_build else 0.0, args.verbose, args.brokers)
 
 
 def main() -> int:

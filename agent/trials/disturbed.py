@@ -25,7 +25,8 @@ from agent.filters.node import NodeAgent  # noqa: E402
 from agent.folders import held  # noqa: E402
 from agent.runs import merged  # noqa: E402
 from agent.service import serving  # noqa: E402
-from agent.store import folder, redis  # noqa: E402
+from agent.store import folder, shared  # noqa: E402
+from agent.transport import brokers  # noqa: E402
 from agent.transport.local import LocalTransport, Transport, address_of  # noqa: E402
 from agent.transport.redis import RedisTransport  # noqa: E402
 from agent.words import EMPTY  # noqa: E402
@@ -147,8 +148,10 @@ def main() -> int:
     made.NodeAgent = Told
     made.LocalTransport = lambda: disturbed(dice, LocalTransport())
     made.RedisTransport = lambda url, farm: disturbed(dice, RedisTransport(url, farm))
+    several: Any = brokers
+    several.Brokers = lambda *words, of=brokers.Brokers: disturbed(dice, of(*words))
     if said.get("wrong") == "early":
-        wrong: Any = redis.RedisStore if "--broker" in sys.argv else folder.FolderStore
+        wrong: Any = shared.SharedStore if "--broker" in sys.argv else folder.FolderStore
         wrong.publish = publish_late(wrong.publish)
     if said.get("wrong") == "stale":
         folders: Any = held.Held

@@ -217,12 +217,12 @@ class Pipes(Farm):
 
 
 class OverRedis(Farm):
-    """An agent for the coordinator and one for each node, each with a home of its own."""
+    """An agent for the coordinator and one for each node, each with a home of its own; one broker, or several."""
 
-    def __init__(self, room: str, nodes: int, seed: int, wrong: str | None) -> None:
+    def __init__(self, room: str, nodes: int, seed: int, wrong: str | None, brokers: int = 1) -> None:
         super().__init__(room, nodes, seed, wrong)
-        self.port = free_port()
-        self.redis: subprocess.Popen[bytes] | None = None
+        self.ports = [free_port() for _ in range(brokers)]
+        self.brokers: dict[int, subprocess.Popen[bytes]] = {}
 
     def pausable(self, node: int) -> int | None:
         with self.lock:
@@ -230,7 +230,14 @@ class OverRedis(Farm):
 
     @property
     def url(self) -> str:
-        return f"redis://127.0.0.1:{self.port}"
+        return self.urls("127.0.0.1")[0]
+
+    def urls(self, host: str) -> list[str]:
+        return [f"redis://{host}:{port}" for port in self.ports]
+
+    def host(self, node: int | None) -> str:
+        """The address at which an agent finds the brokers."""
+        return "127.0.0.1"
 
     def names(self) -> list[str]:
         return ["coordinator", *(f"node{number}" for number in range(1, self.nodes + 1))]
@@ -241,7 +248,7 @@ class OverRedis(Farm):
     def words(self, name: str) -> list[str]:
         node = None if name == "coordinator" else int(name[4:])
         role = ["coordinator"] if node is None else ["node", str(node)]
-        return [*role, "--home", self.home(node), "--nodes", str(self.nodes), "--broker", self.url]
+        return [*role, "--home", self.home(node), "--nodes", str(self.nodes), *(word for url in self.urls(self.host(node)) for word in ("--broker", url))]
 
     def begin(self) -> None:
         key = FarmKey(make_key(f"{self.home(None)}/key"))
@@ -249,16 +256,18 @@ class OverRedis(Farm):
             os.makedirs(self.home(node), mode=0o700, exist_ok=True)
             put_file(f"{self.home(node)}/{NODE_NAME}", key.of_node(node).text().encode())
         self.farm = farm_name(key.names)
-        self.start_redis()
+        for number in range(len(self.ports)):
+            self.start_redis(number)
         super().begin()
 
-    def start_redis(self) -> None:
-        words = ["--protected-mode", "no", "--bind", *self.addresses(), "--port", str(self.port), "--dir", self.room, "--save", "", "--appendonly", "yes",
-                 "--appendfsync", "always", "--logfile", f"{self.room}/redis.log"]
-        self.redis = subprocess.Popen([need("redis-server"), *words])
+    def start_redis(self, number: int) -> None:
+        os.makedirs(folder := f"{self.room}/redis{number}", exist_ok=True)
+        words = ["--protected-mode", "no", "--bind", *self.addresses(), "--port", str(self.ports[number]), "--dir", folder, "--save", "", "--appendonly", "yes",
+                 "--appendfsync", "always", "--logfile", f"{folder}/log"]
+        self.brokers[number] = subprocess.Popen([need("redis-server"), *words])
         for _ in range(500):
             with socket.socket() as link:
-                if link.connect_ex(("127.0.0.1", self.port)) == 0:
+                if link.connect_ex(("127.0.0.1", self.ports[number])) == 0:
                     return
             time.sleep(0.02)
         raise FarmFault("Redis doesn't start")
@@ -266,21 +275,26 @@ class OverRedis(Farm):
     def addresses(self) -> list[str]:
         return ["127.0.0.1"]
 
-    def kill_redis(self, pause: float) -> None:
-        assert self.redis
-        self.redis.kill()
-        self.redis.wait()
+    def kill_redis(self, pause: float, number: int = 0) -> None:
+        self.brokers[number].kill()
+        self.brokers[number].wait()
         time.sleep(pause)
-        self.start_redis()
+        self.start_redis(number)
 
-    def client(self) -> Redis:
-        return Redis(self.url)
+    def hang_redis(self, pause: float, number: int = 0) -> None:
+        self.brokers[number].send_signal(signal.SIGSTOP)
+        time.sleep(pause)
+        self.brokers[number].send_signal(signal.SIGCONT)
+
+    def client(self, number: int = 0) -> Redis:
+        return Redis(self.urls("127.0.0.1")[number])
 
     def end(self) -> None:
         super().end()
-        if self.redis:
-            self.redis.terminate()
-            self.redis.wait()
+        for broker in self.brokers.values():
+            broker.send_signal(signal.SIGCONT)
+            broker.terminate()
+            broker.wait()
 
 
 def copy_record(source: str, to: str) -> None:
@@ -323,9 +337,9 @@ class Machines(OverRedis):
     """As over Redis, with each node in a network of its own. Redis, the coordinator and the first node share one, and a cable goes from
     there to each other node."""
 
-    def __init__(self, room: str, nodes: int, seed: int, wrong: str | None) -> None:
+    def __init__(self, room: str, nodes: int, seed: int, wrong: str | None, brokers: int = 1) -> None:
         super().__init__(room, nodes, seed, wrong)
-        self.port = 6379
+        self.ports = [6379 + number for number in range(brokers)]
         self.mark = f"f{os.getpid()}"
 
     def space(self, node: int) -> str:
@@ -352,11 +366,10 @@ class Machines(OverRedis):
 
     def words(self, name: str) -> list[str]:
         words = super().words(name)
-        if name == "coordinator":
-            return [*words, "--lease-timeout", "6"]
-        node = int(name[4:])
-        words[-1] = self.url if node == 1 else f"redis://10.77.{node}.1:{self.port}"
-        return words
+        return [*words, "--lease-timeout", "6"] if name == "coordinator" else words
+
+    def host(self, node: int | None) -> str:
+        return "127.0.0.1" if node in (None, 1) else f"10.77.{node}.1"
 
     def command(self, name: str) -> list[str]:
         words = super().command(name)
@@ -437,11 +450,12 @@ class Attacker:
         server: Redis | None = None
         while not self.stopping.wait(0.05):
             try:
-                server = server or self.farm.client()
+                server = server or self.farm.client(self.dice.randrange(len(self.farm.ports)))
                 self._send(server)
                 if self.dice.random() < 0.05:
                     self._spoil(server)
             except (RedisFault, FarmFault):
+                server = None
                 self.stopping.wait(0.3)
 
     def _streams(self) -> list[str]:
