@@ -29,54 +29,54 @@ use Rattle.farmboard.specs.Tokens.{is_in_life}
 
 -- the Begin of the grant
 abbrev pub begin_of : Granted → Event
-begin_of g = Begin g.node g.grant.ticket
+begin_of granted = Begin granted.node granted.grant.ticket
 
 -- ready: the world would accept it; missing: it would refuse it for want of contents; gone: for anything else
 abbrev pub Looks : History → Granted → Look → Type 0
-Looks h g Ready = (o : Outcome) × (outcome_of h (begin_of g) ≡ Ok o)
-Looks h g Missing = outcome_of h (begin_of g) ≡ Err (refusal.Node node.ContentsMissing)
-Looks h g Gone = (r : EventRefusal) × (outcome_of h (begin_of g) ≡ Err r) × (r ≢ refusal.Node node.ContentsMissing)
+Looks history granted Ready = (outcome : Outcome) × (outcome_of history (begin_of granted) ≡ Ok outcome)
+Looks history granted Missing = outcome_of history (begin_of granted) ≡ Err (refusal.Node node.ContentsMissing)
+Looks history granted Gone = (reason : EventRefusal) × (outcome_of history (begin_of granted) ≡ Err reason) × (reason ≢ refusal.Node node.ContentsMissing)
 
 -- the contents have the digests that the lease names
 abbrev pub AreBases : Grant → List (List ℕ) → Type 0
-AreBases g bases = map content_digest bases ≡ map (λ u. u.digest) g.slots
+AreBases grant bases = map content_digest bases ≡ map (λ slot. slot.digest) grant.slots
 
 -- what an execution under the ticket would begin with
-pub record Lends (s : Farm) (n : NodeId) (t : Ticket) (l : Life) (g : Grant) (contents : List (List ℕ)) : Type 0 where
-  pub there : is_node s n ≡ true
-  pub life : l ≡ (s.nodes n.0).life
-  pub lease : MayBegin (s.nodes n.0) t g
-  pub bases : AreBases g contents
+pub record Lends (farm : Farm) (node : NodeId) (ticket : Ticket) (since : Life) (grant : Grant) (contents : List (List ℕ)) : Type 0 where
+  pub there : is_node farm node ≡ true
+  pub life : since ≡ (farm.nodes node.0).life
+  pub lease : MayBegin (farm.nodes node.0) ticket grant
+  pub bases : AreBases grant contents
 
 -- of the token's ask
-pub record IsBegunOf (g : Granted) (r : Running) : Type 0 where
-  pub node : r.node ≡ g.node
-  pub wants : r.wants ≡ g.wants
-  pub ticket : r.grant.ticket ≡ g.grant.ticket
+pub record IsBegunOf (granted : Granted) (begun : Running) : Type 0 where
+  pub node : begun.node ≡ granted.node
+  pub wants : begun.wants ≡ granted.wants
+  pub ticket : begun.grant.ticket ≡ granted.grant.ticket
 
 -- the node executes an ask under the lease, in this life
-pub record IsUsed (s : Farm) (r : Running) : Type 0 where
-  pub there : is_node s r.node ≡ true
-  pub life : r.life ≡ (s.nodes r.node.0).life
-  pub runs : (a : ℕ) × (wants : List Want) × (recalled : Bool)
-      × (nth (s.nodes r.node.0).asks a ≡ Some (ask.Running wants r.grant recalled))
+pub record IsUsed (farm : Farm) (begun : Running) : Type 0 where
+  pub there : is_node farm begun.node ≡ true
+  pub life : begun.life ≡ (farm.nodes begun.node.0).life
+  pub runs : (place : ℕ) × (wants : List Want) × (recalled : Bool)
+      × (nth (farm.nodes begun.node.0).asks place ≡ Some (ask.Running wants begun.grant recalled))
 
 -- the node is in this life and isn't down, and an ask of it is granted under the ticket and not begun
 abbrev pub is_held : Farm → NodeId → Life → Ticket → Bool
-is_held s n l t = is_in_life s n l && (not (s.nodes n.0).spent && is_some (first (held t) (s.nodes n.0).asks 0))
+is_held farm node life ticket = is_in_life farm node life && (not (farm.nodes node.0).spent && is_some (first (held ticket) (farm.nodes node.0).asks 0))
 
 -- the same of an execution
 abbrev pub is_running : Farm → NodeId → Life → Ticket → Bool
-is_running s n l t = is_in_life s n l && (not (s.nodes n.0).spent && is_some (first (running t) (s.nodes n.0).asks 0))
+is_running farm node life ticket = is_in_life farm node life && (not (farm.nodes node.0).spent && is_some (first (running ticket) (farm.nodes node.0).asks 0))
 
 -- the lease is given back, or nothing is appended where the node no longer has it
 abbrev pub GivesBack : Bool → History → Event → Ticket → History → Ended → Type 0
-GivesBack has old e t new Sent = (has ≡ true) × Did old e new (note.Node (node_note.Aborted t))
-GivesBack has old e t new Stale = (has ≡ false) × (new ≡ old)
+GivesBack has old event ticket new Sent = (has ≡ true) × Did old event new (note.Node (node_note.Aborted ticket))
+GivesBack has old event ticket new Stale = (has ≡ false) × (new ≡ old)
 
 -- the lease is kept: the schedule is full, memory ran out, or the world refused the event, as it is the tenure of a
 -- folder that another ask of the node uses
 abbrev pub KeepsLease : Bool → History → Event → History → BoardRefusal → Type 0
-KeepsLease has old e new (board.Event r) = (has ≡ true) × (r ≡ refusal.Node node.TenureInUse)
-    × Took old e new (Err (board.Event r))
-KeepsLease has old e new r = (has ≡ true) × Took old e new (Err r)
+KeepsLease has old event new (board.Event reason) = (has ≡ true) × (reason ≡ refusal.Node node.TenureInUse)
+    × Took old event new (Err (board.Event reason))
+KeepsLease has old event new reason = (has ≡ true) × Took old event new (Err reason)

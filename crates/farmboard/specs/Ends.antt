@@ -7,5 +7,5 @@ use Rattle.farmboard.specs.declared.tokens.Finished.{Finished}
 
 -- the execution that is over, with the versions that it adds
 abbrev pub finished_of : Running → List Left → Finished
-finished_of r lefts =
-    record { node = r.node; life = r.life; ask = r.grant.ask; ticket = r.grant.ticket; versions = map version_of lefts }
+finished_of execution lefts =
+    record { node = execution.node; life = execution.life; ask = execution.grant.ask; ticket = execution.grant.ticket; versions = map version_of lefts }

@@ -15,31 +15,31 @@ use Rattle.farmhistory.specs.Out.{is_on, out_of}
 
 -- the event was taken or refused so
 abbrev pub TookOrNot : History → Event → History → Result ⊤ BoardRefusal → Type 0
-TookOrNot old e new (Ok tt) = (o : Outcome) × Took old e new (Ok o)
-TookOrNot old e new (Err r) = Took old e new (Err r)
+TookOrNot old next new (Ok tt) = (outcome : Outcome) × Took old next new (Ok outcome)
+TookOrNot old next new (Err reason) = Took old next new (Err reason)
 
 -- the next message is skipped, where one is left. Nothing is appended
 abbrev pub Skips : History → History → Result ⊤ BoardRefusal → Type 0
-Skips old new (Ok tt) = (k : ℕ) × IsNext old k × (new ≡ record old { skipped = old.skipped ++ k ∷ [] })
-Skips old new (Err (board.Event r)) = (r ≡ NoSuchMessage) × NoneLeft old × (new ≡ old)
+Skips old new (Ok tt) = (number : ℕ) × IsNext old number × (new ≡ record old { skipped = old.skipped ++ number ∷ [] })
+Skips old new (Err (board.Event reason)) = (reason ≡ NoSuchMessage) × NoneLeft old × (new ≡ old)
 Skips old new (Err board.HistoryFull) = ⊥
 Skips old new (Err board.TokenOut) = ⊥
 Skips old new (Err board.OutOfMemory) = new ≡ old
 
 -- a restart of a node is refused while an execution on it is in use
 abbrev pub RestartsNode : NodeId → History → History → Result ⊤ BoardRefusal → Type 0
-RestartsNode n old new (Err board.TokenOut) = (list_any (is_on n) (out_of old) ≡ true) × (new ≡ old)
-RestartsNode n old new r = (list_any (is_on n) (out_of old) ≡ false) × TookOrNot old (event.RestartNode n) new r
+RestartsNode node old new (Err board.TokenOut) = (list_any (is_on node) (out_of old) ≡ true) × (new ≡ old)
+RestartsNode node old new told = (list_any (is_on node) (out_of old) ≡ false) × TookOrNot old (event.RestartNode node) new told
 
 abbrev pub Faults : FarmStep → History → History → Result ⊤ BoardRefusal → Type 0
 Faults Skip old new = Skips old new
-Faults (Again k) old new = TookOrNot old (event.Deliver k) new
-Faults (Resend n) old new = TookOrNot old (event.Resend n) new
+Faults (Again number) old new = TookOrNot old (event.Deliver number) new
+Faults (Resend node) old new = TookOrNot old (event.Resend node) new
 Faults Nudge old new = TookOrNot old event.Nudge new
-Faults (Withdraw t) old new = TookOrNot old (event.Withdraw t) new
-Faults (Prune s) old new = TookOrNot old (event.Prune s) new
-Faults (Retire n) old new = TookOrNot old (event.Retire n) new
-Faults (RestartNode n) old new = RestartsNode n old new
+Faults (Withdraw ticket) old new = TookOrNot old (event.Withdraw ticket) new
+Faults (Prune slot) old new = TookOrNot old (event.Prune slot) new
+Faults (Retire node) old new = TookOrNot old (event.Retire node) new
+Faults (RestartNode node) old new = RestartsNode node old new
 Faults RestartCoordinator old new = TookOrNot old event.RestartCoordinator new
 Faults (FailSave kept) old new = TookOrNot old (event.FailSave kept) new
-Faults (Forge n c) old new = TookOrNot old (event.Forge n c) new
+Faults (Forge node content) old new = TookOrNot old (event.Forge node content) new

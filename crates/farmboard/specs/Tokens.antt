@@ -17,28 +17,28 @@ use Rattle.farmboard.specs.declared.tokens.Accept.TheVariants as accept
 
 -- the node is there, and has not restarted since this life
 abbrev pub is_in_life : Farm → NodeId → Life → Bool
-is_in_life s n l = is_node s n && ((s.nodes n.0).life.0 == l.0)
+is_in_life farm node life = is_node farm node && ((farm.nodes node.0).life.0 == life.0)
 
 -- how an ask of the node's present life stands
 abbrev pub state_of : Farm → NodeId → Ask → Option AskState
-state_of s n a = option_map told_state (nth (s.nodes n.0).asks a.0)
+state_of farm node ask = option_map told_state (nth (farm.nodes node.0).asks ask.0)
 
 -- the ask is neither granted nor denied
 abbrev pub IsUndecided : Option AskState → Type 0
-IsUndecided o = ((g : Grant) → o ≢ Some (state.Granted g)) × ((why : Why) → o ≢ Some (state.Over (how.Denied why)))
+IsUndecided found = ((grant : Grant) → found ≢ Some (state.Granted grant)) × ((why : Why) → found ≢ Some (state.Over (how.Denied why)))
 
 -- an ask of the node, in the life that it was in, with these wants
-pub record IsAskOf (h : History) (n : NodeId) (ws : List Want) (a : Asked) : Type 0 where
-  pub node : a.node ≡ n
-  pub life : a.life ≡ ((farm_of h).nodes n.0).life
-  pub wants : a.wants ≡ ws
+pub record IsAskOf (history : History) (asker : NodeId) (wanted : List Want) (asked : Asked) : Type 0 where
+  pub node : asked.node ≡ asker
+  pub life : asked.life ≡ ((farm_of history).nodes asker.0).life
+  pub wants : asked.wants ≡ wanted
 
 -- lost: the node restarted since; else the ask is granted, denied, or neither
 abbrev pub Accepts : Farm → Asked → Accept → Type 0
-Accepts s a accept.Lost = is_in_life s a.node a.life ≡ false
-Accepts s a (accept.Granted g) = (is_in_life s a.node a.life ≡ true)
-    × (state_of s a.node a.ask ≡ Some (state.Granted g.grant))
-    × (g.node ≡ a.node) × (g.life ≡ a.life) × (g.wants ≡ a.wants)
-Accepts s a (accept.Denied why) = (is_in_life s a.node a.life ≡ true)
-    × (state_of s a.node a.ask ≡ Some (state.Over (how.Denied why)))
-Accepts s a (accept.Waiting b) = (is_in_life s a.node a.life ≡ true) × IsUndecided (state_of s a.node a.ask) × (b ≡ a)
+Accepts farm asked accept.Lost = is_in_life farm asked.node asked.life ≡ false
+Accepts farm asked (accept.Granted granted) = (is_in_life farm asked.node asked.life ≡ true)
+    × (state_of farm asked.node asked.ask ≡ Some (state.Granted granted.grant))
+    × (granted.node ≡ asked.node) × (granted.life ≡ asked.life) × (granted.wants ≡ asked.wants)
+Accepts farm asked (accept.Denied why) = (is_in_life farm asked.node asked.life ≡ true)
+    × (state_of farm asked.node asked.ask ≡ Some (state.Over (how.Denied why)))
+Accepts farm asked (accept.Waiting token) = (is_in_life farm asked.node asked.life ≡ true) × IsUndecided (state_of farm asked.node asked.ask) × (token ≡ asked)

@@ -39,8 +39,8 @@ impl Board {
 
     /// What an execution under the ticket would begin with, if the world would accept its Begin.
     fn lend(&self, alloc: Global, node: NodeId, ticket: Ticket) -> Result<Option<Lent>, AllocError>
-        ensures some { IfOk result (λ o. IfSome o (λ lent. Lends (farm_of self.now) node ticket lent.life lent.grant lent.bases)) }
-        ensures none { IfOk result (λ o. IfNone o ((x : _) → outcome_of self.now (Event.Begin node ticket) ≢ Ok x)) }
+        ensures some { IfOk result (λ found. IfSome found (λ lent. Lends (farm_of self.now) node ticket lent.life lent.grant lent.bases)) }
+        ensures none { IfOk result (λ found. IfNone found ((outcome : _) → outcome_of self.now (Event.Begin node ticket) ≢ Ok outcome)) }
     {
         let Some(core) = self.world().node(node) else {
             return Ok(None);
@@ -63,11 +63,11 @@ impl Board {
         alloc: Global,
         token: Granted,
     ) -> Result<Running, (Granted, BoardRefusal)>
-        ensures ok { IfOk result (λ r. Did self.old (begin_of token) self.new (note.Node (node_note.Begun token.grant.ticket))) }
+        ensures ok { IfOk result (λ running. Did self.old (begin_of token) self.new (note.Node (node_note.Begun token.grant.ticket))) }
         ensures token { IfOk result (IsBegunOf token) }
         ensures used { IfOk result (IsUsed (farm_of self.new)) }
-        ensures bases { IfOk result (λ r. AreBases r.grant r.bases) }
-        ensures err { IfErr result (λ e. (e.0 ≡ token) × Took self.old (begin_of token) self.new (Err e.1)) }
+        ensures bases { IfOk result (λ running. AreBases running.grant running.bases) }
+        ensures err { IfErr result (λ refused. (refused.0 ≡ token) × Took self.old (begin_of token) self.new (Err refused.1)) }
     {
         let Ok(lent) = self.lend(alloc, token.node, token.grant.ticket) else {
             return Err((token, BoardRefusal::OutOfMemory));

@@ -65,9 +65,9 @@ impl Model for Board {
 
     ghost Value = { History };
 
-    ghost view = { λ b. record { setup = b.setup; events = b.schedule.items; skipped = b.skipped.items } };
+    ghost view = { λ board. record { setup = board.setup; events = board.schedule.items; skipped = board.skipped.items } };
 
-    ghost invariant = { λ b. IsBoard (shown b.world) (record { setup = b.setup; events = b.schedule.items; skipped = b.skipped.items }) b.passed b.ahead.items b.out.items b.counts };
+    ghost invariant = { λ board. IsBoard (shown board.world) (record { setup = board.setup; events = board.schedule.items; skipped = board.skipped.items }) board.passed board.ahead.items board.out.items board.counts };
 }
 
 impl Board {
@@ -80,8 +80,8 @@ impl Board {
 
     /// A board of a farm where nothing happened.
     pub fn start(alloc: Global, setup: Setup) -> Result<Self, StartRefusal>
-        ensures board { IfOk result (λ b. b ≡ record { setup = setup; events = []; skipped = [] }) }
-        ensures setup { IfOk result (λ b. IsSetup setup) }
+        ensures board { IfOk result (λ board. board ≡ record { setup = setup; events = []; skipped = [] }) }
+        ensures setup { IfOk result (λ board. IsSetup setup) }
         ensures bad { (result ≡ Err StartRefusal.BadSetup) ↔ (IsSetup setup → ⊥) }
     {
         let world = World::start(alloc, setup)?;
@@ -210,7 +210,7 @@ impl Board {
 
     /// A number up to which no message is left.
     fn passed(&self) -> u64
-        ensures { (k : ℕ) → 1 ≤ k → k ≤ result → is_passed self.now k ≡ true }
+        ensures { (number : ℕ) → 1 ≤ number → number ≤ result → is_passed self.now number ≡ true }
     {
         self.passed
     }
@@ -241,8 +241,8 @@ impl Board {
     /// Carries out the event of an ask. Only an ask is accepted as asked.
     fn take_ask(&mut self, alloc: Global, event: Event) -> Result<Ask, BoardRefusal>
         requires { IsAskEvent event }
-        ensures ok { IfOk result (λ a. Did self.old event self.new (note.Node (node_note.Asked a))) }
-        ensures err { IfErr result (λ e. Took self.old event self.new (Err e)) }
+        ensures ok { IfOk result (λ asked. Did self.old event self.new (note.Node (node_note.Asked asked))) }
+        ensures err { IfErr result (λ refusal. Took self.old event self.new (Err refusal)) }
     {
         let outcome = self.take(alloc, event)?;
         match asked(&outcome.note) {
@@ -253,9 +253,9 @@ impl Board {
 
     /// Makes a node ask for a lease.
     pub fn ask(&mut self, alloc: Global, node: NodeId, wants: Wants) -> Result<Asked, BoardRefusal>
-        ensures ok { IfOk result (λ a. Did self.old (Event.Ask node wants) self.new (note.Node (node_note.Asked a.ask))) }
-        ensures token { IfOk result (λ a. IsAskOf self.old node wants a) }
-        ensures err { IfErr result (λ e. Took self.old (Event.Ask node wants) self.new (Err e)) }
+        ensures ok { IfOk result (λ asked. Did self.old (Event.Ask node wants) self.new (note.Node (node_note.Asked asked.ask))) }
+        ensures token { IfOk result (λ asked. IsAskOf self.old node wants asked) }
+        ensures err { IfErr result (λ refusal. Took self.old (Event.Ask node wants) self.new (Err refusal)) }
     {
         let copy = wants.copy(alloc)?;
         let life = self.life_of(node);
@@ -276,9 +276,9 @@ impl Board {
         folder: FolderName,
     ) -> Result<Asked, BoardRefusal>
         requires { folder.mode ≡ Mode.Shared }
-        ensures ok { IfOk result (λ a. Did self.old (Event.Tenure node folder) self.new (note.Node (node_note.Asked a.ask))) }
-        ensures token { IfOk result (λ a. IsAskOf self.old node (tenure_wants folder) a) }
-        ensures err { IfErr result (λ e. Took self.old (Event.Tenure node folder) self.new (Err e)) }
+        ensures ok { IfOk result (λ asked. Did self.old (Event.Tenure node folder) self.new (note.Node (node_note.Asked asked.ask))) }
+        ensures token { IfOk result (λ asked. IsAskOf self.old node (tenure_wants folder) asked) }
+        ensures err { IfErr result (λ refusal. Took self.old (Event.Tenure node folder) self.new (Err refusal)) }
     {
         let wants = wants_of_tenure(alloc, &folder)?;
         let life = self.life_of(node);
@@ -361,9 +361,9 @@ impl Board {
         token: Running,
         lefts: Vec<Left>,
     ) -> Result<Finished, (Running, BoardRefusal)>
-        ensures ok { IfOk result (λ f. TookOrNot self.old (Event.Finish token.node token.grant.ticket lefts.items) self.new (Ok tt)) }
-        ensures token { IfOk result (λ f. f ≡ finished_of token lefts.items) }
-        ensures err { IfErr result (λ e. (e.0 ≡ token) × Took self.old (Event.Finish token.node token.grant.ticket lefts.items) self.new (Err e.1)) }
+        ensures ok { IfOk result (λ finished. TookOrNot self.old (Event.Finish token.node token.grant.ticket lefts.items) self.new (Ok tt)) }
+        ensures token { IfOk result (λ finished. finished ≡ finished_of token lefts.items) }
+        ensures err { IfErr result (λ refused. (refused.0 ≡ token) × Took self.old (Event.Finish token.node token.grant.ticket lefts.items) self.new (Err refused.1)) }
     {
         let Ok(versions) = first_versions(alloc, lefts.as_slice()) else {
             return Err((token, BoardRefusal::OutOfMemory));
@@ -378,9 +378,9 @@ impl Board {
     /// The node, if it is in this life.
     pub(crate) fn in_life(&self, node: NodeId, life: Life) -> Option<&NodeCore>
         ensures exact { is_some result ≡ is_in_life (farm_of self.now) node life }
-        ensures node { IfSome result (λ x. core.shown x.now ≡ (farm_of self.now).nodes node.0) }
+        ensures node { IfSome result (λ inner. core.shown inner.now ≡ (farm_of self.now).nodes node.0) }
         // It tells of each ask how it ended: no node of a farm forgets.
-        ensures told { IfSome result (λ x. core.forgets x.now ≡ none_lost) }
+        ensures told { IfSome result (λ inner. core.forgets inner.now ≡ none_lost) }
     {
         let core = self.world().node(node)?;
         if core.life() != life {
@@ -392,7 +392,7 @@ impl Board {
     /// What became of an ask. Nothing is appended.
     pub fn accept(&self, alloc: Global, token: Asked) -> Result<Accept, (Asked, BoardRefusal)>
         ensures ok { IfOk result (Accepts (farm_of self.now) token) }
-        ensures err { IfErr result (λ e. (e.0 ≡ token) × (e.1 ≡ BoardRefusal.OutOfMemory)) }
+        ensures err { IfErr result (λ refused. (refused.0 ≡ token) × (refused.1 ≡ BoardRefusal.OutOfMemory)) }
     {
         let Some(core) = self.in_life(token.node, token.life) else {
             abandon_asked(token);

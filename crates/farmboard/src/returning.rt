@@ -39,7 +39,7 @@ impl Board {
         token: Granted,
     ) -> Result<Ended, (Granted, BoardRefusal)>
         ensures ok { IfOk result (GivesBack (is_held (farm_of self.old) token.node token.life token.grant.ticket) self.old (Event.Abort token.node token.grant.ticket) token.grant.ticket self.new) }
-        ensures err { IfErr result (λ e. (e.0 ≡ token) × KeepsLease (is_held (farm_of self.old) token.node token.life token.grant.ticket) self.old (Event.Abort token.node token.grant.ticket) self.new e.1) }
+        ensures err { IfErr result (λ refused. (refused.0 ≡ token) × KeepsLease (is_held (farm_of self.old) token.node token.life token.grant.ticket) self.old (Event.Abort token.node token.grant.ticket) self.new refused.1) }
     {
         if !self.is_held(token.node, token.life, token.grant.ticket) {
             abandon_granted(token);
@@ -58,7 +58,7 @@ impl Board {
     /// tenure whose folder another ask of the node uses.
     pub fn abort(&mut self, alloc: Global, token: Running) -> Result<Ended, (Running, BoardRefusal)>
         ensures ok { IfOk result (GivesBack (is_running (farm_of self.old) token.node token.life token.grant.ticket) self.old (Event.Abort token.node token.grant.ticket) token.grant.ticket self.new) }
-        ensures err { IfErr result (λ e. (e.0 ≡ token) × KeepsLease (is_running (farm_of self.old) token.node token.life token.grant.ticket) self.old (Event.Abort token.node token.grant.ticket) self.new e.1) }
+        ensures err { IfErr result (λ refused. (refused.0 ≡ token) × KeepsLease (is_running (farm_of self.old) token.node token.life token.grant.ticket) self.old (Event.Abort token.node token.grant.ticket) self.new refused.1) }
     {
         if !self.is_running(token.node, token.life, token.grant.ticket) {
             abandon_running(token);

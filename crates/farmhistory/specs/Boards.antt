@@ -13,28 +13,28 @@ use Rattle.farmhistory.specs.Out.{out_of, AreUsed}
 
 -- the number is not above this one, or among those that were passed ahead of it
 abbrev pub is_behind : ℕ → List ℕ → ℕ → Bool
-is_behind upto ahead k = nat_le k upto || list_any (λ n. n == k) ahead
+is_behind upto ahead number = nat_le number upto || list_any (λ passed. passed == number) ahead
 
 -- what is behind after the event: what was, and what it delivers
 abbrev pub PassesTo : Event → ℕ → List ℕ → ℕ → List ℕ → Type 0
-PassesTo e upto ahead upto' ahead' = (k : ℕ) → is_behind upto' ahead' k ≡ (is_behind upto ahead k || delivers k e)
+PassesTo event upto ahead upto' ahead' = (number : ℕ) → is_behind upto' ahead' number ≡ (is_behind upto ahead number || delivers number event)
 
 -- none is above the number
-pub record AreFew (c : Counts) (n : ℕ) : Type 0 where
-  pub committed : c.committed ≤ n
-  pub kept : c.kept ≤ n
-  pub refused : c.refused ≤ n
+pub record AreFew (counts : Counts) (most : ℕ) : Type 0 where
+  pub committed : counts.committed ≤ most
+  pub kept : counts.kept ≤ most
+  pub refused : counts.refused ≤ most
 
-pub record IsBoard (s : Farm) (h : History) (upto : ℕ) (ahead : List ℕ) (uses : List InUse) (c : Counts) : Type 0 where
+pub record IsBoard (world : Farm) (history : History) (upto : ℕ) (ahead : List ℕ) (uses : List InUse) (counted : Counts) : Type 0 where
   -- the world is the one that the schedule leads to
-  pub farm : s ≡ farm_of h
-  pub setup : IsSetup h.setup
-  pub room : length h.events ≤ EVENTS
+  pub farm : world ≡ farm_of history
+  pub setup : IsSetup history.setup
+  pub room : length history.events ≤ EVENTS
   -- the messages that are no longer left
-  pub passed : (k : ℕ) → 1 ≤ k → is_passed h k ≡ is_behind upto ahead k
+  pub passed : (number : ℕ) → 1 ≤ number → is_passed history number ≡ is_behind upto ahead number
   -- the executions in use are those of the schedule
-  pub out : uses ≡ out_of h
+  pub out : uses ≡ out_of history
   -- and those that nodes execute
-  pub used : AreUsed s uses
-  pub counts : c ≡ counts_of h
-  pub few : AreFew c (length h.events)
+  pub used : AreUsed world uses
+  pub counts : counted ≡ counts_of history
+  pub few : AreFew counted (length history.events)

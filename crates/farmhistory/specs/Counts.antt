@@ -18,39 +18,39 @@ use Rattle.farmhistory.specs.History.{History}
 use Rattle.farmhistory.specs.Lines.{number_on}
 
 abbrev pub one_if : Bool → ℕ
-one_if b = if b then 1 else 0
+one_if holds = if holds then 1 else 0
 
 -- a Commit was answered as committed
 abbrev pub tells_commit : EventNote → Bool
-tells_commit (note.Coord (coord.Committed t)) = true
-tells_commit n = false
+tells_commit (note.Coord (coord.Committed committed)) = true
+tells_commit other = false
 
 -- the line of one of the lease's slots has a version of its ticket
 abbrev pub is_on_line : Farm → Lease → Bool
-is_on_line s g = list_any (λ x. is_some (number_on s g.ticket x.0)) g.slots
+is_on_line farm lease = list_any (λ slot. is_some (number_on farm lease.ticket slot.0)) lease.slots
 
 -- the leases that an event may take back: those that are live when the coordinator restarts
 abbrev pub leases_at : Event → List Lease → List Lease
 leases_at RestartCoordinator live = live
-leases_at e live = []
+leases_at event live = []
 
 -- what an accepted event adds, s being the farm after it. A failed save that kept a Commit left its lease live, until a
 -- restart finds it committed
 abbrev pub counted : List Lease → Farm → Result Outcome EventRefusal → Counts → Counts
-counted leases s (Ok o) c =
-    record c { committed = c.committed + one_if (tells_commit o.note); kept = c.kept + one_if (list_any (is_on_line s) leases) }
-counted leases s (Err r) c = record c { refused = c.refused + 1 }
+counted leases after (Ok outcome) counts =
+    record counts { committed = counts.committed + one_if (tells_commit outcome.note); kept = counts.kept + one_if (list_any (is_on_line after) leases) }
+counted leases after (Err reason) counts = record counts { refused = counts.refused + 1 }
 
 -- what is counted after these events
 abbrev pub counts_from : List Event → Farm → Counts → Counts
-counts_from [] s c = c
-counts_from (e ∷ es) s c =
-    counts_from es (step content_digest farm_limits s e).farm (counted (leases_at e s.ledger.live) (step content_digest farm_limits s e).farm (step content_digest farm_limits s e).outcome c)
+counts_from [] farm counts = counts
+counts_from (event ∷ events) farm counts =
+    counts_from events (step content_digest farm_limits farm event).farm (counted (leases_at event farm.ledger.live) (step content_digest farm_limits farm event).farm (step content_digest farm_limits farm event).outcome counts)
 
 unfoldable pub counts_of : History → Counts
-counts_of h =
-    counts_from h.events (opening content_digest h.setup.nodes) (record { committed = 0; kept = 0; refused = 0 })
+counts_of history =
+    counts_from history.events (opening content_digest history.setup.nodes) (record { committed = 0; kept = 0; refused = 0 })
 
 -- the grants that ended as committed
 abbrev pub commits_of : History → ℕ
-commits_of h = (counts_of h).committed + (counts_of h).kept
+commits_of history = (counts_of history).committed + (counts_of history).kept

@@ -28,73 +28,73 @@ pub record History : Type 0 where
 
 -- the farm that the stored schedule leads to
 unfoldable pub farm_of : History → Farm
-farm_of h = run content_digest farm_limits h.events (opening content_digest h.setup.nodes)
+farm_of history = run content_digest farm_limits history.events (opening content_digest history.setup.nodes)
 
 -- the outcome of one event more
 unfoldable pub outcome_of : History → Event → Result Outcome EventRefusal
-outcome_of h e = (step content_digest farm_limits (farm_of h) e).outcome
+outcome_of history next = (step content_digest farm_limits (farm_of history) next).outcome
 
 abbrev pub and_then : History → Event → History
-and_then h e = record h { events = h.events ++ e ∷ [] }
+and_then history next = record history { events = history.events ++ next ∷ [] }
 
 -- one event: it is appended where it was accepted, and where the world refused it; it isn't where the schedule was
 -- full, or memory ran out
 abbrev pub Took : History → Event → History → Result Outcome BoardRefusal → Type 0
-Took old e new (Ok o) = (length old.events < EVENTS) × (outcome_of old e ≡ Ok o) × (new ≡ and_then old e)
-Took old e new (Err (board.Event r)) = (length old.events < EVENTS) × (outcome_of old e ≡ Err r)
-    × (new ≡ and_then old e)
-Took old e new (Err board.HistoryFull) = (EVENTS ≤ length old.events) × (new ≡ old)
-Took old e new (Err board.TokenOut) = ⊥
-Took old e new (Err board.OutOfMemory) = new ≡ old
+Took old next new (Ok outcome) = (length old.events < EVENTS) × (outcome_of old next ≡ Ok outcome) × (new ≡ and_then old next)
+Took old next new (Err (board.Event reason)) = (length old.events < EVENTS) × (outcome_of old next ≡ Err reason)
+    × (new ≡ and_then old next)
+Took old next new (Err board.HistoryFull) = (EVENTS ≤ length old.events) × (new ≡ old)
+Took old next new (Err board.TokenOut) = ⊥
+Took old next new (Err board.OutOfMemory) = new ≡ old
 
 -- the board's answer to an event with this outcome
 abbrev pub answer_of : Result Outcome EventRefusal → Result Outcome BoardRefusal
-answer_of (Ok o) = Ok o
-answer_of (Err r) = Err (board.Event r)
+answer_of (Ok outcome) = Ok outcome
+answer_of (Err reason) = Err (board.Event reason)
 
 -- the event was accepted, and did this
 abbrev pub Did : History → Event → History → EventNote → Type 0
-Did old e new note = (o : Outcome) × (o.note ≡ note) × Took old e new (Ok o)
+Did old next new note = (outcome : Outcome) × (outcome.note ≡ note) × Took old next new (Ok outcome)
 
 -- the number of the ask that the note tells of
 abbrev pub ask_told : NodeNote → Option Ask
-ask_told (node_note.Asked a) = Some a
-ask_told n = None
+ask_told (node_note.Asked ask) = Some ask
+ask_told other = None
 
 abbrev pub ask_in : EventNote → Option Ask
-ask_in (note.Node n) = ask_told n
-ask_in n = None
+ask_in (note.Node told) = ask_told told
+ask_in told = None
 
 -- the event is a node's ask, for a lease or a tenure
 abbrev pub IsAskEvent : Event → Type 0
-IsAskEvent (event.Ask n wants) = ⊤
-IsAskEvent (Tenure n folder) = ⊤
-IsAskEvent e = ⊥
+IsAskEvent (event.Ask node wants) = ⊤
+IsAskEvent (Tenure node folder) = ⊤
+IsAskEvent other = ⊥
 
 -- ---- deliveries
 
 -- the event delivers this message
 abbrev pub delivers : ℕ → Event → Bool
-delivers k (Deliver number) = number == k
-delivers k e = false
+delivers sought (Deliver number) = number == sought
+delivers sought other = false
 
 -- the message was skipped, or a Deliver of the schedule names it
 abbrev pub is_passed : History → ℕ → Bool
-is_passed h k = list_any (λ n. n == k) h.skipped || list_any (delivers k) h.events
+is_passed history number = list_any (λ skipped. skipped == number) history.skipped || list_any (delivers number) history.events
 
 -- the least number of a message that was neither skipped nor named by a Deliver
-pub record IsNext (h : History) (k : ℕ) : Type 0 where
-  pub least : 1 ≤ k
-  pub sent : k ≤ length (farm_of h).pool
-  pub here : is_passed h k ≡ false
-  pub others : (j : ℕ) → 1 ≤ j → j < k → is_passed h j ≡ true
+pub record IsNext (history : History) (number : ℕ) : Type 0 where
+  pub least : 1 ≤ number
+  pub sent : number ≤ length (farm_of history).pool
+  pub here : is_passed history number ≡ false
+  pub others : (other : ℕ) → 1 ≤ other → other < number → is_passed history other ≡ true
 
 -- no message is left
 abbrev pub NoneLeft : History → Type 0
-NoneLeft h = (k : ℕ) → 1 ≤ k → k ≤ length (farm_of h).pool → is_passed h k ≡ true
+NoneLeft history = (number : ℕ) → 1 ≤ number → number ≤ length (farm_of history).pool → is_passed history number ≡ true
 
 -- the next message is delivered, where one is left; else nothing is appended
 abbrev pub DeliversNext : History → History → Result (Option Outcome) BoardRefusal → Type 0
 DeliversNext old new (Ok None) = NoneLeft old × (new ≡ old)
-DeliversNext old new (Ok (Some o)) = (k : ℕ) × IsNext old k × Took old (Deliver k) new (Ok o)
-DeliversNext old new (Err r) = (k : ℕ) × IsNext old k × Took old (Deliver k) new (Err r)
+DeliversNext old new (Ok (Some outcome)) = (number : ℕ) × IsNext old number × Took old (Deliver number) new (Ok outcome)
+DeliversNext old new (Err reason) = (number : ℕ) × IsNext old number × Took old (Deliver number) new (Err reason)

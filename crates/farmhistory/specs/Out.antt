@@ -17,39 +17,39 @@ use Rattle.farmhistory.specs.declared.uses.InUse.{InUse}
 use Rattle.farmhistory.specs.History.{History}
 
 abbrev pub is_on : NodeId → InUse → Bool
-is_on n u = u.node.0 == n.0
+is_on node used = used.node.0 == node.0
 
 abbrev pub is_use_of : NodeId → Ticket → InUse → Bool
-is_use_of n t u = (u.node.0 == n.0) && (u.ticket.0 == t.0)
+is_use_of node ticket used = (used.node.0 == node.0) && (used.ticket.0 == ticket.0)
 
 -- the node executes an ask under the ticket
 abbrev pub Runs : Farm → InUse → Type 0
-Runs s u = (a : ℕ) × (wants : List Want) × (g : Grant) × (recalled : Bool)
-    × (nth (s.nodes u.node.0).asks a ≡ Some (ask.Running wants g recalled)) × (g.ticket ≡ u.ticket)
+Runs farm used = (place : ℕ) × (wants : List Want) × (grant : Grant) × (recalled : Bool)
+    × (nth (farm.nodes used.node.0).asks place ≡ Some (ask.Running wants grant recalled)) × (grant.ticket ≡ used.ticket)
 
 -- these are the executions of the farm's nodes
-pub record AreUsed (s : Farm) (uses : List InUse) : Type 0 where
-  pub each : (u : InUse) → In u uses → Runs s u
-  pub all : (u : InUse) → Runs s u → In u uses
+pub record AreUsed (farm : Farm) (uses : List InUse) : Type 0 where
+  pub each : (used : InUse) → In used uses → Runs farm used
+  pub all : (used : InUse) → Runs farm used → In used uses
 
 -- what is in use after an accepted event
 abbrev pub out_after : Event → List InUse → List InUse
-out_after (Begin n t) out = out ++ record { node = n; ticket = t } ∷ []
-out_after (Finish n t lefts) out = filter (λ u. not (is_use_of n t u)) out
-out_after (Abort n t) out = filter (λ u. not (is_use_of n t u)) out
-out_after (RestartNode n) out = filter (λ u. not (is_on n u)) out
-out_after e out = out
+out_after (Begin node ticket) out = out ++ record { node = node; ticket = ticket } ∷ []
+out_after (Finish node ticket lefts) out = filter (λ used. not (is_use_of node ticket used)) out
+out_after (Abort node ticket) out = filter (λ used. not (is_use_of node ticket used)) out
+out_after (RestartNode node) out = filter (λ used. not (is_on node used)) out
+out_after other out = out
 
 -- a refused event begins and ends none
 abbrev pub out_if : Result Outcome EventRefusal → Event → List InUse → List InUse
-out_if (Ok o) e out = out_after e out
-out_if (Err r) e out = out
+out_if (Ok outcome) event out = out_after event out
+out_if (Err reason) event out = out
 
 -- what is in use after these events
 abbrev pub out_from : List Event → Farm → List InUse → List InUse
-out_from [] s out = out
-out_from (e ∷ es) s out =
-    out_from es (step content_digest farm_limits s e).farm (out_if (step content_digest farm_limits s e).outcome e out)
+out_from [] farm out = out
+out_from (event ∷ events) farm out =
+    out_from events (step content_digest farm_limits farm event).farm (out_if (step content_digest farm_limits farm event).outcome event out)
 
 unfoldable pub out_of : History → List InUse
-out_of h = out_from h.events (opening content_digest h.setup.nodes) []
+out_of history = out_from history.events (opening content_digest history.setup.nodes) []

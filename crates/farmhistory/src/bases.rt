@@ -15,7 +15,7 @@ pub fn copies_of(
     slots: &[GrantedSlot],
 ) -> Result<Vec<Content>, AllocError>
     requires { all_stored (shown core.now) slots.now ≡ true }
-    ensures { IfOk result (λ bases. map content_digest bases.items ≡ map (λ u. u.digest) slots.now) }
+    ensures { IfOk result (λ bases. map content_digest bases.items ≡ map (λ slot. slot.digest) slots.now) }
 {
     let mut bases = Vec::with_capacity(alloc, slots.len())?;
     for slot in slots {

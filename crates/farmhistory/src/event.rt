@@ -17,7 +17,7 @@ pub fn carry_out(
     alloc: Global,
     event: Event,
 ) -> Result<Result<Outcome, EventRefusal>, AllocError>
-    ensures ok { IfOk result (λ r. step content_digest farm_limits (shown world.old) event ≡ record { farm = shown world.new; outcome = r }) }
+    ensures ok { IfOk result (λ outcome. step content_digest farm_limits (shown world.old) event ≡ record { farm = shown world.new; outcome = outcome }) }
     ensures err { OnErr result (shown world.new ≡ shown world.old) }
 {
     match world.step(alloc, event) {

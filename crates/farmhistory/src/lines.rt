@@ -62,7 +62,7 @@ fn or_zero(number: Option<u64>) -> u64
 
 /// Room for a version of each slot, its number not known yet.
 pub fn first_versions(alloc: Global, lefts: &[Left]) -> Result<Vec<Version>, AllocError>
-    ensures { IfOk result (λ v. v.items ≡ map version_of lefts.now) }
+    ensures { IfOk result (λ versions. versions.items ≡ map version_of lefts.now) }
 {
     let mut versions = Vec::with_capacity(alloc, lefts.len())?;
     for left in lefts {

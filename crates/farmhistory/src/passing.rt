@@ -7,7 +7,7 @@ ghost use Rattle.farmhistory.specs.Boards.{is_behind, PassesTo};
 use events::Event;
 
 pub fn is_among(number: u64, numbers: &[u64]) -> bool
-    ensures { result ≡ list_any (λ n. n == number) numbers.now }
+    ensures { result ≡ list_any (λ passed. passed == number) numbers.now }
 {
     numbers.iter().any(|other| *other == number)
 }
@@ -15,7 +15,7 @@ pub fn is_among(number: u64, numbers: &[u64]) -> bool
 /// Passes the message of this number, in the room that is there. Answers up to which number all are passed then.
 fn pass_number(ahead: &mut Vec<u64>, upto: u64, number: u64) -> u64
     requires { vec_len ahead.old < vec_capacity ahead.old }
-    ensures { (k : ℕ) → is_behind result ahead.new.items k ≡ (is_behind upto ahead.old.items k || number == k) }
+    ensures { (other : ℕ) → is_behind result ahead.new.items other ≡ (is_behind upto ahead.old.items other || number == other) }
 {
     if number <= upto {
         return upto;

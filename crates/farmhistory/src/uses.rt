@@ -16,14 +16,14 @@ pub struct InUse {
 
 /// Strikes the execution of a ticket on a node.
 fn strike(out: &mut Vec<InUse>, node: NodeId, ticket: Ticket)
-    ensures { out.new.items ≡ filter (λ u. not (is_use_of node ticket u)) out.old.items }
+    ensures { out.new.items ≡ filter (λ used. not (is_use_of node ticket used)) out.old.items }
 {
     out.retain(|used| !(used.node == node && used.ticket == ticket));
 }
 
 /// Strikes the executions on a node.
 fn strike_node(out: &mut Vec<InUse>, node: NodeId)
-    ensures { out.new.items ≡ filter (λ u. not (is_on node u)) out.old.items }
+    ensures { out.new.items ≡ filter (λ used. not (is_on node used)) out.old.items }
 {
     out.retain(|used| used.node != node);
 }

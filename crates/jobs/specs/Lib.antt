@@ -1,3 +1,4 @@
+pub mod Growth
 pub mod History
 pub mod Kept
 pub mod ReadyLists

@@ -2,12 +2,11 @@ ghost use Rattle.std.specs.Prelude.{◌≡◌, ◌≤◌, ◌-◌, ◌++◌, ◌
 ghost use Rattle.std.specs.Vec.{vec_capacity};
 ghost use Rattle.names.specs.declared.digest.Key.{Key as SpecKey};
 ghost use Rattle.solverkeys.specs.GraphKeys.{AreKeys};
-ghost use Rattle.keytable.specs.Adding.{AreAdded, IsFront};
+ghost use Rattle.keytable.specs.Adding.{AreAdded};
+ghost use Rattle.jobs.specs.Growth.{AreTabled, HasGrown, HasKept, HasMoreKeys};
 ghost use Rattle.jobs.specs.Kept.{AreListed};
 ghost use Rattle.keytable.specs.Reaching.{AreReached};
 ghost use Rattle.jobs.specs.ReadyLists.{HasRoom, IsSameList};
-ghost use Rattle.keytable.specs.Tables.{IsTable};
-ghost use Rattle.keytable.specs.Users.{AreUsers, IsClosed, IsSameUsers};
 
 use super::known_keys::KnownKeys;
 use super::ready::list_ready;
@@ -59,28 +58,12 @@ fn grow(
     keys: &[Key],
     reached: &[bool],
 ) -> Result<(), AllocError>
-    requires table { IsTable known.old.table }
-    requires closed { IsClosed known.old.table.entries.items }
-    requires users { AreUsers known.old.table.entries.items known.old.users }
-    requires count { length known.old.users.lasts.items ≡ length known.old.table.entries.items }
+    requires tabled { AreTabled known.old }
     requires keys { AreKeys graph.now keys.now }
     requires reached { AreReached graph.now reached.now }
-    ensures front { IsFront known.old.table known.new.table }
-    ensures table { OnOk result (IsTable known.new.table) }
-    ensures added { OnOk result (AreAdded graph.now keys.now known.old.table.entries.items known.new.table.entries.items) }
-    ensures closed { OnOk result (IsClosed known.new.table.entries.items) }
-    ensures users { OnOk result (AreUsers known.new.table.entries.items known.new.users) }
-    ensures count { OnOk result (length known.new.users.lasts.items ≡ length known.new.table.entries.items) }
-    ensures marks { OnOk result (let count = length known.new.table.entries.items in known.new.marks.items ≡ take count known.old.marks.items ++ replicate (count - length known.old.marks.items) false) }
-    ensures room { OnOk result (HasRoom (length known.new.table.entries.items) known.new.ready) }
-    ensures list { IsSameList known.old.ready known.new.ready }
-    ensures cursors { OnOk result (let count = length known.new.table.entries.items in known.new.ready.cursors.items ≡ take count known.old.ready.cursors.items ++ replicate (count - length known.old.ready.cursors.items) 0) }
-    ensures todo { known.new.todo.items ≡ known.old.todo.items }
-    ensures todo_room { OnOk result (length known.new.table.entries.items ≤ vec_capacity known.new.todo) }
-    ensures todo_capacity { vec_capacity known.old.todo ≤ vec_capacity known.new.todo }
-    ensures err { OnErr result (known.new.marks.items ≡ known.old.marks.items) }
-    ensures same_users { OnErr result (IsSameUsers known.old.users known.new.users) }
-    ensures same_cursors { OnErr result (known.new.ready.cursors.items ≡ known.old.ready.cursors.items) }
+    ensures grown { OnOk result (HasGrown graph.now keys.now known.old known.new) }
+    ensures kept { HasKept known.old known.new }
+    ensures err { OnErr result (HasMoreKeys known.old known.new) }
 {
     add_all(alloc, &mut known.table, graph, keys, reached)?;
     let count = known.table.entries.len();

@@ -11,7 +11,7 @@ use Rattle.events.specs.declared.answer.How.TheVariants as how
 use Rattle.protocol.specs.Lists.{In, put, nth, set_nth}
 use Rattle.protocol.specs.Names.{Shared, NodeId, Life, Ask, Digest, Want, FolderName, tenure_wants}
 use Rattle.protocol.specs.Machine.{Said, Told, Message, FromCoord, ToCoord, Grant, Granted, Machine, acquire, Step, Grants, Ends, Prunes, Sees, Retires, Parks, Unparks, Raises, Steps, No_step, One_more}
-use Rattle.protocol.specs.World.{KeptAsk, Open, Holding, Running, Finished, Over, World, Node, IsTenureOf, Asked_tenure, Held_tenure, Running_tenure, Finished_tenure, Act, Asks, Asks_tenure, Asks_again, Greets, Takes, Gives_back, Begins, Finishes, Gives_up, Sends_commit, Learns, Drops, Is_denied, Is_recalled, Is_recalled_running, Stores, Forgets, Asks_content, Sends_blob, Restarts, Stops, Move, Node_moves, Machine_moves, Machine_says, Fails, Recovers, Moves, Still, Then, start}
+use Rattle.protocol.specs.World.{KeptAsk, Open, Holding, Running, Finished, Over, World, Node, IsTenureOf, Act, Asks, Asks_tenure, Asks_again, Greets, Takes, Gives_back, Begins, Finishes, Gives_up, Sends_commit, Learns, Drops, Is_denied, Is_recalled, Is_recalled_running, Stores, Forgets, Asks_content, Sends_blob, Restarts, Stops, Move, Node_moves, Machine_moves, Machine_says, Fails, Recovers, Moves, Still, Then, start}
 use Rattle.protocol.proofs.Base.{in_left, in_append, in_one, some_is, none_some, put_all, put_same, nth_set_cases, nth-set_same, nth-set_other, nth-append, nth-push, nth_push_cases, request_is}
 use Rattle.progress.proofs.Keeping.{AreKept, kept_all}
 use Rattle.progress.proofs.Giving.{granted_is}
@@ -111,16 +111,17 @@ TenureParts f (Finished wants g news) = Parts f wants (is_tenure g.kind)
 TenureParts f (Over ending) = ⊥
 
 pub parts_of : (f : FolderName) (st : KeptAsk) → IsTenureOf f st → TenureParts f st
-parts_of f st (Asked_tenure w wants i e) = (w, i, e, refl)
-parts_of f st (Held_tenure w wants g r i e t) = (w, i, e, t)
-parts_of f st (Running_tenure w wants g r i e t) = (w, i, e, t)
-parts_of f st (Finished_tenure w wants g news i e t) = (w, i, e, t)
+parts_of f (Open wants tenure) (t, (w, i, e)) = (w, i, e, t)
+parts_of f (Holding wants g r) (t, (w, i, e)) = (w, i, e, t)
+parts_of f (Running wants g r) (t, (w, i, e)) = (w, i, e, t)
+parts_of f (Finished wants g news) (t, (w, i, e)) = (w, i, e, t)
+parts_of f (Over ending) (t, (w, i, e)) = absurd i
 
 pub of_parts : (f : FolderName) (st : KeptAsk) → TenureParts f st → IsTenureOf f st
-of_parts f (Open wants tenure) (w, i, e, t) = subst (λ b. IsTenureOf f (Open wants b)) (sym t) (Asked_tenure w wants i e)
-of_parts f (Holding wants g r) (w, i, e, t) = Held_tenure w wants g r i e t
-of_parts f (Running wants g r) (w, i, e, t) = Running_tenure w wants g r i e t
-of_parts f (Finished wants g news) (w, i, e, t) = Finished_tenure w wants g news i e t
+of_parts f (Open wants tenure) (w, i, e, t) = (t, (w, i, e))
+of_parts f (Holding wants g r) (w, i, e, t) = (t, (w, i, e))
+of_parts f (Running wants g r) (w, i, e, t) = (t, (w, i, e))
+of_parts f (Finished wants g news) (w, i, e, t) = (t, (w, i, e))
 of_parts f (Over ending) p = absurd p
 
 open_plain : (f : FolderName) (wants : List Want) → IsTenureOf f (Open wants false) → ⊥
@@ -149,12 +150,12 @@ module _ (sha : List ℕ → Digest) where
   acts pool n x sends y fits (Gives_back g a b c d e) = still x y refl refl
   acts pool n x sends y fits (Begins wants g r place a b) = set_did x y place (Running wants g r) (Holding wants g r) refl refl a (λ ws t w. w) (λ f t. of_parts f (Holding wants g r) (parts_of f (Running wants g r) t))
   acts pool n x sends y fits (Finishes wants g r place news store a b c d e) = set_did x y place (Finished wants g news) (Running wants g r) refl refl a (λ ws t w. w) (λ f t. of_parts f (Running wants g r) (parts_of f (Finished wants g news) t))
-  acts pool n x sends y fits (Gives_up wants g r place (inl a) b) = set_did x y place (Over (how.Released g.ticket)) (Holding wants g r) refl refl a (λ ws t w. tt) (λ f t. absurd (over_plain f _ t))
-  acts pool n x sends y fits (Gives_up wants g r place (inr a) b) = set_did x y place (Over (how.Released g.ticket)) (Running wants g r) refl refl a (λ ws t w. tt) (λ f t. absurd (over_plain f _ t))
+  acts pool n x sends y fits (Gives_up wants g r place (inl a) b) = set_did x y place (Over (how.Released g.ticket)) (Holding wants g r) refl refl a (λ ws t w. tt) (λ f t. absurd (over_plain f (how.Released g.ticket) t))
+  acts pool n x sends y fits (Gives_up wants g r place (inr a) b) = set_did x y place (Over (how.Released g.ticket)) (Running wants g r) refl refl a (λ ws t w. tt) (λ f t. absurd (over_plain f (how.Released g.ticket) t))
   acts pool n x sends y fits (Sends_commit wants g place news a) = still x y refl refl
-  acts pool n x sends y fits (Learns wants g place news versions a b) = set_did x y place (Over (how.Committed g.ticket versions)) (Finished wants g news) refl refl b (λ ws t w. tt) (λ f t. absurd (over_plain f _ t))
-  acts pool n x sends y fits (Drops wants g place news a b) = set_did x y place (Over (how.Fenced g.ticket)) (Finished wants g news) refl refl b (λ ws t w. tt) (λ f t. absurd (over_plain f _ t))
-  acts pool n x sends y fits (Is_denied ask why wants tenure a b) = set_did x y ask.0 (Over (how.Denied why)) (Open wants tenure) refl refl b (λ ws t w. tt) (λ f t. absurd (over_plain f _ t))
+  acts pool n x sends y fits (Learns wants g place news versions a b) = set_did x y place (Over (how.Committed g.ticket versions)) (Finished wants g news) refl refl b (λ ws t w. tt) (λ f t. absurd (over_plain f (how.Committed g.ticket versions) t))
+  acts pool n x sends y fits (Drops wants g place news a b) = set_did x y place (Over (how.Fenced g.ticket)) (Finished wants g news) refl refl b (λ ws t w. tt) (λ f t. absurd (over_plain f (how.Fenced g.ticket) t))
+  acts pool n x sends y fits (Is_denied ask why wants tenure a b) = set_did x y ask.0 (Over (how.Denied why)) (Open wants tenure) refl refl b (λ ws t w. tt) (λ f t. absurd (over_plain f (how.Denied why) t))
   acts pool n x sends y fits (Is_recalled wants g place a b) = set_did x y place (Holding wants g true) (Holding wants g false) refl refl b (λ ws t w. w) (λ f t. of_parts f (Holding wants g false) (parts_of f (Holding wants g true) t))
   acts pool n x sends y fits (Is_recalled_running wants g place a b) = set_did x y place (Running wants g true) (Running wants g false) refl refl b (λ ws t w. w) (λ f t. of_parts f (Running wants g false) (parts_of f (Running wants g true) t))
   acts pool n x sends y fits (Stores c) = still x y refl refl

@@ -7,10 +7,10 @@ use Rattle.protocol.specs.Names.{Slot, slot_eq, digest_eq, NodeId, Life, Ask, Ti
 use Rattle.protocol.specs.Machine.{GrantedSlot, Grant, News, Confirmed, Granted, Message, Told, Fetches, Blob, hello, acquire, commit, release, Machine, AnswersAsk, line, written, slots_of, Names, Stands}
 use Rattle.farm_base.specs.declared.message.FromCoord.TheVariants as told
 use Rattle.events.specs.declared.answer.How.TheVariants as how
-use Rattle.protocol.specs.World.{KeptAsk, Open, Holding, Running, Finished, Over, Node, keeps, learn, learn_bases, learn_versions, keep, without, has_life, RunsTenure, Uses, Open_uses, Held_uses, Running_uses, Idle, Act, Asks, Asks_tenure, Asks_again, Greets, Takes, Gives_back, Begins, Finishes, Gives_up, Sends_commit, Learns, Drops, Is_denied, Is_recalled, Is_recalled_running, Stores, Forgets, Asks_content, Sends_blob, Restarts, Stops, World}
+use Rattle.protocol.specs.World.{KeptAsk, Open, Holding, Running, Finished, Over, Node, keeps, learn, learn_bases, learn_versions, keep, without, has_life, RunsTenure, WantsNow, for_tenure, Idle, Act, Asks, Asks_tenure, Asks_again, Greets, Takes, Gives_back, Begins, Finishes, Gives_up, Sends_commit, Learns, Drops, Is_denied, Is_recalled, Is_recalled_running, Stores, Forgets, Asks_content, Sends_blob, Restarts, Stops, World}
 use Rattle.names.proofs.CompareLaws.{digest_exact}
 use Rattle.protocol.proofs.Base.{slot_eq_is, in_one, some_is, none_some, nth-set_same, nth-set_other, nth_set_cases, nth-append, nth-push, nth_push_cases}
-use Rattle.protocol.proofs.Invariant.{Wanted, spent, WasAsked, Spent, ForTenure, Its, StateOk, WantsNow, for_tenure, HasTenure, AtHome, NodeOk, WasGiven, MessageOk, Inv, Ahead, ahead_refl}
+use Rattle.protocol.proofs.Invariant.{Wanted, spent, WasAsked, Spent, ForTenure, Its, StateOk, HasTenure, AtHome, NodeOk, WasGiven, MessageOk, Inv, Ahead, ahead_refl}
 
 -- ---- what is known
 
@@ -149,13 +149,6 @@ home_push asks new here home b s w e wants shared free = elim (nth_push_cases as
       (here w (subst (λ z. WantsNow z w) q.1 wants) shared (subst (λ z. for_tenure z ≡ false) q.1 free))
 ]
 
-uses_from : (s : KeptAsk) (w : Want) (f : FolderName) → WantsNow s w → w.folder ≡ f → Uses f s
-uses_from (Open wants tenure) w f i e = Open_uses w wants tenure i e
-uses_from (Holding wants g r) w f i e = Held_uses w wants g r i e
-uses_from (Running wants g r) w f i e = Running_uses w wants g r i e
-uses_from (Finished wants g news) w f i e = absurd i
-uses_from (Over how) w f i e = absurd i
-
 -- an execution that ends with no other ask in its folders
 home_end : (asks : List KeptAsk) (a : ℕ) (wants : List Want) (g : Grant) (r : Bool) (new : KeptAsk) → nth asks a ≡ Some (Running wants g r) → Idle asks a wants g
     → ((w : Want) → WantsNow new w → ⊥) → AtHome asks → AtHome (set_nth asks a new)
@@ -165,7 +158,7 @@ home_end asks a wants g r new at idle none home b s w e now shared free = elim (
     | inl p ↦ (let same : Running wants g r ≡ Running h.1 h.2 h.3 = some_is (Running wants g r) (Running h.1 h.2 h.3) (sym at ∙ ap (nth asks) (sym p) ∙ h.5) in
         let w' : h.1 ≡ wants = cc in
         let g' : h.2 ≡ g = cc in
-        absurd (idle (subst (λ (z : Grant). is_tenure z.kind ≡ true) g' h.6) h.4 (subst (In h.4) w' h.7) b s q.1 q.0 (uses_from s w h.4.folder now (sym h.8))))
+        absurd (idle (subst (λ (z : Grant). is_tenure z.kind ≡ true) g' h.6) h.4 (subst (In h.4) w' h.7) b s q.1 q.0 (w, now, sym h.8)))
     | inr ne ↦ (h.0, h.1, h.2, h.3, h.4, nth-set_other asks a h.0 new ne ∙ h.5, h.6, h.7, h.8)
   ])
 ]

@@ -6,7 +6,7 @@ use Rattle.farm_base.specs.Kinds.{is_tenure}
 use Rattle.farm_base.specs.declared.message.Message.TheVariants as to
 use Rattle.farm_base.specs.declared.message.ToNode.TheVariants as to_node
 use Rattle.protocol.specs.Lists.{In, IsFrontOf, nth}
-use Rattle.protocol.specs.Names.{Life, Mode, Shared, IsInstance, is_private, is_shared, only_slot, wants_shared, leased_wants, tenure_wants, FolderName, Slot, NodeId, Ticket, Digest, Want}
+use Rattle.protocol.specs.Names.{Life, is_alone, Mode, Shared, IsInstance, is_private, is_shared, only_slot, wants_shared, leased_wants, tenure_wants, FolderName, Slot, NodeId, Ticket, Digest, Want}
 use Rattle.protocol.specs.Machine.{acquire, GrantedSlot, AnswersAsk, want_of, Grant, Granted, Told, Has, ticket_of, LineVersion, Ending, Withdrawn, Died, Message, Said, ToCoord, Machine, Live, line}
 use Rattle.events.specs.declared.answer.CoordNote.{CoordNote}
 use Rattle.events.specs.declared.answer.CoordNote.TheVariants as coord
@@ -28,7 +28,7 @@ use Rattle.events.specs.declared.answer.EventRefusal.TheVariants as refusal
 use Rattle.protocol.proofs.Saying as saying
 use Rattle.protocol.specs.Follows.{lease_from, Agrees, SavedAgrees, IsFarm, Shows}
 use Rattle.protocol.specs.Meaning.{message_adds, Finds, recorded, adds, Carried, Answered, Means, Of_older_life}
-use Rattle.protocol.specs.Chronicle.{unarmed, ChronicleFrom, EveryScheduleHasAChronicle, StaysOut, GoesOn, NoneShared, OneForEach, No_wants, Shared_want, Other_want, TenureSlot, SlotsWanted, WantedUnder, MayBeAtOnce, Writes, EveryVersionIsAnswered, Headline, EveryScheduleMeans, EveryFarmIsSaved, Covered, EveryRecordCovers, RestartReadsTheRecord}
+use Rattle.protocol.specs.Chronicle.{unarmed, ChronicleFrom, EveryScheduleHasAChronicle, StaysOut, GoesOn, OfTwoTenures, OneForEach, No_wants, Shared_want, Other_want, TenureSlot, SlotsWanted, WantedUnder, MayBeAtOnce, Writes, EveryVersionIsAnswered, Headline, EveryScheduleMeans, EveryFarmIsSaved, Covered, EveryRecordCovers, RestartReadsTheRecord}
 use Rattle.protocol.proofs.Steps.{same_grant, made_below}
 use Rattle.protocol.proofs.Invariant.{Inv, WasAsked, Wanted}
 use Rattle.protocol.proofs.Using.{Runs}
@@ -43,6 +43,10 @@ use Rattle.protocol.proofs.Fitting.{WorldFits}
 use Rattle.protocol.proofs.LastLives.{AllLast, scheduled_last}
 use Rattle.protocol.proofs.Failing.{armed_now, leaves_armed, spent_down}
 use Rattle.protocol.proofs.Schedules.{handled_grew, moves_trans, step_next, run_next, start_fits, from_opening, opening_shows, up_is, up_saved}
+
+-- the grants of two tickets, as they were sent, share no slot of a PRIVATE or SHARED folder
+abbrev NoneShared : List Message → Ticket → Ticket → Type 0
+NoneShared pool ticket ticket' = (grant grant' : Grant) (slot : Slot) → In (Told (told.Granted grant)) pool → In (Told (told.Granted grant')) pool → grant.ticket ≡ ticket → grant'.ticket ≡ ticket' → Has grant slot → Has grant' slot → is_alone slot ≡ true → ⊥
 
 -- ---- the slots of a Grant, by the wants of its ask
 
@@ -490,7 +494,7 @@ module _ (sha : List ℕ → Digest) (k : Limits) (farm : IsFarm sha k) where
           let lt' : x.0.life.0 < y.life.0 = subst (λ (z : Lease). z.life.0 < y.life.0) (sym x.2) lt in
           out (Deliver number) n.world n.moves n.shows g.ticket (inr (named n.world.machine x.0 g Died x.2
           (a.carried.ended.all x.0 Died x.1 (c.0, y, c.1, sent, Of_older_life kept' newer' (ap (λ (z : Lease). z.node) x.2 ∙ at) lt')))));
-      alone = begun_alone u moves s shows;
+      tenures = λ n n' t t' late o o' ok spared ok' g g' x sent sent' has has' shared. begun_alone u moves s shows n n' t t' late o o' ok spared ok' g g' x sent.0 sent'.0 sent.1 sent'.1 has has' (ap (λ m. is_private m || is_shared m) shared);
       spent = λ n e. spent_down sha k s n e;
       arms = λ kept. armed_now sha k s kept;
       armed = λ e other. leaves_armed sha k s e other;

@@ -10,7 +10,7 @@ use Rattle.farm_base.specs.declared.message.ToNode.TheVariants as to_node
 use Rattle.farm_base.specs.declared.message.Request.{Request}
 use Rattle.farm_base.specs.declared.message.Request.TheVariants.{Hello, Acquire, Commit, Release}
 use Rattle.farm_base.specs.declared.message.FromCoord.TheVariants as told
-use Rattle.protocol.specs.World.{KeptAsk, Open, Holding, Running, Finished, Over, Node, World}
+use Rattle.protocol.specs.World.{KeptAsk, Open, Holding, Running, Finished, Over, Node, World, WantsNow, for_tenure}
 use Rattle.protocol.proofs.Base.{front_get}
 use Rattle.protocol.proofs.Steps.{Sound, Later, names_later}
 
@@ -51,21 +51,6 @@ StateOk m n l a (Holding wants g r) = Its m n l a g × AnswersAsk g wants
 StateOk m n l a (Running wants g r) = Its m n l a g × AnswersAsk g wants
 StateOk m n l a (Finished wants g news) = Its m n l a g × AnswersAsk g wants × (slots_of news ≡ written g.slots) × (news ≢ [])
 StateOk m n l a (Over how) = ⊤
-
--- the ask is open, granted or running, and has the want
-abbrev pub WantsNow : KeptAsk → Want → Type 0
-WantsNow (Open wants tenure) w = In w wants
-WantsNow (Holding wants g r) w = In w wants
-WantsNow (Running wants g r) w = In w wants
-WantsNow (Finished wants g news) w = ⊥
-WantsNow (Over how) w = ⊥
-
-abbrev pub for_tenure : KeptAsk → Bool
-for_tenure (Open wants tenure) = tenure
-for_tenure (Holding wants g r) = is_tenure g.kind
-for_tenure (Running wants g r) = is_tenure g.kind
-for_tenure (Finished wants g news) = is_tenure g.kind
-for_tenure (Over how) = false
 
 -- a tenure of the folder is in use
 abbrev pub HasTenure : List KeptAsk → FolderName → Type 0

@@ -14,7 +14,7 @@ use Rattle.events.specs.declared.answer.How.TheVariants as how
 use Rattle.events.specs.declared.answer.NodeRefusal.{NodeRefusal}
 use Rattle.protocol.specs.Ledger.{Limits}
 use Rattle.protocol.specs.Hostile.{key_of}
-use Rattle.protocol.specs.World.{KeptAsk, Open, Holding, Running, Finished, Over, Node, World, keeps, learn_bases, learn_versions, keep, without, has_life, IsTenureOf, Asked_tenure, Held_tenure, Running_tenure, Finished_tenure, RunsTenure, Uses, Open_uses, Held_uses, Running_uses, Idle, Act, Asks, Asks_tenure, Asks_again, Greets, Takes, Gives_back, Begins, Finishes, Gives_up, Sends_commit, Learns, Drops, Is_denied, Is_recalled, Is_recalled_running, Stores, Forgets, Asks_content, Sends_blob, Restarts, Stops, Node_moves, Moves, Still, Then}
+use Rattle.protocol.specs.World.{KeptAsk, Open, Holding, Running, Finished, Over, Node, World, keeps, learn_bases, learn_versions, keep, without, has_life, IsTenureOf, RunsTenure, Uses, Idle, Act, Asks, Asks_tenure, Asks_again, Greets, Takes, Gives_back, Begins, Finishes, Gives_up, Sends_commit, Learns, Drops, Is_denied, Is_recalled, Is_recalled_running, Stores, Forgets, Asks_content, Sends_blob, Restarts, Stops, Node_moves, Moves, Still, Then}
 use Rattle.protocol.specs.Nodes.{NodeWork, NodeAnswer, guard, Place, wants_folder, is_tenure_of, is_home_of, uses, at_home, others_use, in_use, HeldGrant, Sent, first, first_of, under, held, running, held_or_running, finished, recalled_if, recallable, is_stored, all_stored, is_missing, others, fetches_of, fetches, is_base, asked, asked_tenure, beginning, begun, Left, news_of, stored, leaving, finishing, finished_with, aborting, aborted, again, all_again, forgotten, needs, resent, restarted, gives_back, granted, learned, dropped, denied, recalled, of_life, heard, fetched, brought, unless_spent}
 use Rattle.names.proofs.CompareLaws.{digest_exact}
 use Rattle.protocol.proofs.Base.{true_false, none_some, some_is, folder_eq_same, life_is, ticket_is, in_append, in_one, from_map, any_in, any_none, from_any, put_same, put_other, nth_in}
@@ -56,15 +56,18 @@ some_home f asks h =
     (suc at.0, o.0, o.1, o.2, at.1 ∙ ap Some o.3, o.4, o.5, o.6)
 
 pub tenure_test : (f : FolderName) (s : KeptAsk) → IsTenureOf f s → is_tenure_of f s ≡ true
-tenure_test f s (Asked_tenure w wants i e) = wants_folder_is f wants w i e
-tenure_test f s (Held_tenure w wants g r i e t) = (let v = wants_folder_is f wants w i e in rw (t, v) refl)
-tenure_test f s (Running_tenure w wants g r i e t) = (let v = wants_folder_is f wants w i e in rw (t, v) refl)
-tenure_test f s (Finished_tenure w wants g news i e t) = (let v = wants_folder_is f wants w i e in rw (t, v) refl)
+tenure_test f (Open wants tenure) (t, (w, i, e)) = (let v = wants_folder_is f wants w i e in rw (t, v) refl)
+tenure_test f (Holding wants g r) (t, (w, i, e)) = (let v = wants_folder_is f wants w i e in rw (t, v) refl)
+tenure_test f (Running wants g r) (t, (w, i, e)) = (let v = wants_folder_is f wants w i e in rw (t, v) refl)
+tenure_test f (Finished wants g news) (t, (w, i, e)) = (let v = wants_folder_is f wants w i e in rw (t, v) refl)
+tenure_test f (Over how) (t, (w, i, e)) = absurd i
 
 uses_test : (f : FolderName) (s : KeptAsk) → Uses f s → uses f s ≡ true
-uses_test f s (Open_uses w wants tenure i e) = wants_folder_is f wants w i e
-uses_test f s (Held_uses w wants g r i e) = wants_folder_is f wants w i e
-uses_test f s (Running_uses w wants g r i e) = wants_folder_is f wants w i e
+uses_test f (Open wants tenure) (w, i, e) = wants_folder_is f wants w i e
+uses_test f (Holding wants g r) (w, i, e) = wants_folder_is f wants w i e
+uses_test f (Running wants g r) (w, i, e) = wants_folder_is f wants w i e
+uses_test f (Finished wants g news) (w, i, e) = absurd i
+uses_test f (Over how) (w, i, e) = absurd i
 
 -- no other ask uses the folders
 others_none : (a : ℕ) (wants : List Want) (ss : List KeptAsk) (k : ℕ) → others_use a wants ss k ≡ false → (j : ℕ) (s : KeptAsk) → slice_get ss j ≡ Some s → k + j + 1 ≢ a → list_any (λ (w : Want). uses w.folder s) wants ≡ false

@@ -15,7 +15,7 @@ use Rattle.events.specs.declared.answer.NodeNote.TheVariants as node_note
 use Rattle.events.specs.declared.answer.NodeRefusal.{NodeRefusal}
 use Rattle.events.specs.declared.answer.NodeRefusal.TheVariants as refusal
 use Rattle.protocol.specs.Ledger.{Limits}
-use Rattle.protocol.specs.World.{KeptAsk, Open, Holding, Running, Finished, Over, Node, keeps, keep, RunsTenure, IsTenureOf, Asked_tenure, Held_tenure, Running_tenure, Finished_tenure, Uses, Open_uses, Held_uses, Running_uses, Idle}
+use Rattle.protocol.specs.World.{KeptAsk, Open, Holding, Running, Finished, Over, Node, keeps, keep, RunsTenure, IsTenureOf, Uses, Idle}
 use Rattle.protocol.specs.Nodes.{NodeWork, NodeAnswer, guard, Place, wants_folder, is_tenure_of, is_home_of, uses, at_home, others_use, in_use, HeldGrant, Sent, first, under, held, running, held_or_running, finished, recalled_if, recallable, is_missing, nodes_from, others, fetches_of, fetches, next_ask, nothing, is_stored, all_stored, is_base, asked, asked_tenure, beginning, begun, Left, news_of, stored, leaving, finishing, finished_with, aborting, aborted, again, all_again, forgotten, needs, resent, gives_back, granted, learned, dropped, denied, recalled, of_life, heard, fetched, brought, unless_spent}
 use Rattle.protocol.specs.Replay.{Event, Tenure, Deliver, Begin, Finish, Abort, Resend, Forge, Forget, told_to}
 use Rattle.protocol.specs.Replay as replay
@@ -40,16 +40,16 @@ not_all test (x ∷ xs) h = elim (cases_Bool (test x)) [
 ]
 
 tenure_is : (f : FolderName) (s : KeptAsk) → is_tenure_of f s ≡ true → IsTenureOf f s
-tenure_is f (Open wants tenure) h = (let b = and_parts tenure (wants_folder f wants) h in let w = wants_folder_in f wants b.1 in subst (λ t. IsTenureOf f (Open wants t)) (sym b.0) (Asked_tenure w.0 wants w.1 w.2))
-tenure_is f (Holding wants g r) h = (let b = and_parts (is_tenure g.kind) (wants_folder f wants) h in let w = wants_folder_in f wants b.1 in Held_tenure w.0 wants g r w.1 w.2 b.0)
-tenure_is f (Running wants g r) h = (let b = and_parts (is_tenure g.kind) (wants_folder f wants) h in let w = wants_folder_in f wants b.1 in Running_tenure w.0 wants g r w.1 w.2 b.0)
-tenure_is f (Finished wants g news) h = (let b = and_parts (is_tenure g.kind) (wants_folder f wants) h in let w = wants_folder_in f wants b.1 in Finished_tenure w.0 wants g news w.1 w.2 b.0)
+tenure_is f (Open wants tenure) h = (let b = and_parts tenure (wants_folder f wants) h in (b.0, wants_folder_in f wants b.1))
+tenure_is f (Holding wants g r) h = (let b = and_parts (is_tenure g.kind) (wants_folder f wants) h in (b.0, wants_folder_in f wants b.1))
+tenure_is f (Running wants g r) h = (let b = and_parts (is_tenure g.kind) (wants_folder f wants) h in (b.0, wants_folder_in f wants b.1))
+tenure_is f (Finished wants g news) h = (let b = and_parts (is_tenure g.kind) (wants_folder f wants) h in (b.0, wants_folder_in f wants b.1))
 tenure_is f (Over how) h = (let bad : false ≡ true = h in cc)
 
 uses_is : (f : FolderName) (s : KeptAsk) → uses f s ≡ true → Uses f s
-uses_is f (Open wants tenure) h = (let w = wants_folder_in f wants h in Open_uses w.0 wants tenure w.1 w.2)
-uses_is f (Holding wants g r) h = (let w = wants_folder_in f wants h in Held_uses w.0 wants g r w.1 w.2)
-uses_is f (Running wants g r) h = (let w = wants_folder_in f wants h in Running_uses w.0 wants g r w.1 w.2)
+uses_is f (Open wants tenure) h = wants_folder_in f wants h
+uses_is f (Holding wants g r) h = wants_folder_in f wants h
+uses_is f (Running wants g r) h = wants_folder_in f wants h
 uses_is f (Finished wants g news) h = (let bad : false ≡ true = h in cc)
 uses_is f (Over how) h = (let bad : false ≡ true = h in cc)
 

@@ -2,7 +2,7 @@
 use Rattle.std.specs.Prelude.{◌≡◌, ◌≢◌, Bool, ℕ, ◌+◌, ◌<◌, ◌≤◌, ◌⊎◌, nat_lt, false, true, slice_get, List, [], ◌∷◌, ◌++◌, Option, Some, None, ⊤, Result, Ok, Err}
 use Rattle.farm_base.specs.Kinds.{is_tenure}
 use Rattle.protocol.specs.Lists.{In, IsFrontOf, nth}
-use Rattle.protocol.specs.Names.{Slot, is_alone, IsInstance, Shared, Private, FolderName, NodeId, Life, Ask, Ticket, Digest, Want}
+use Rattle.protocol.specs.Names.{Slot, IsInstance, Shared, Private, FolderName, NodeId, Life, Ask, Ticket, Digest, Want}
 use Rattle.protocol.specs.Machine.{Grant, GrantedSlot, Confirmed, LineVersion, Message, Said, Told, ToCoord, Parked, Machine, Live, Has, acquire}
 use Rattle.farm_base.specs.declared.message.Request.TheVariants.{Acquire}
 use Rattle.farm_base.specs.declared.message.FromCoord.TheVariants as told
@@ -24,12 +24,6 @@ use Rattle.protocol.specs.Replay.{Event, Deliver, Begin, Withdraw, Retire, Resta
 use Rattle.protocol.specs.Meaning.{adds, StopsAt, IsElsewhere, AreFree, AllTaken, CouldBeGranted, IsHeldUp, IsOf, Means}
 use Rattle.protocol.specs.Reasons.{decision_at, Fair}
 use Rattle.protocol.specs.Follows.{IsFarm, Shows, NoneReady, after_life, MayBeGranted}
-
--- the grants of two tickets, as they were sent, share no slot of a PRIVATE or SHARED folder
-abbrev pub NoneShared : List Message → Ticket → Ticket → Type 0
-NoneShared pool ticket ticket' = (grant grant' : Grant) (slot : Slot) → In (Told (told.Granted grant)) pool
-    → In (Told (told.Granted grant')) pool → grant.ticket ≡ ticket → grant'.ticket ≡ ticket' → Has grant slot
-    → Has grant' slot → is_alone slot ≡ true → ⊥
 
 -- the slot is for the want: of its folder, writable as it is wanted, one of the instances of a PRIVATE folder or the
 -- only slot of another
@@ -59,6 +53,11 @@ SlotsWanted false wants slots = OneForEach wants slots
 -- a Grant with this ticket was sent
 abbrev pub SentUnder : List Message → Ticket → Grant → Type 0
 SentUnder pool ticket grant = In (Told (told.Granted grant)) pool × (grant.ticket ≡ ticket)
+
+-- the grants of two tickets, as they were sent, are not of one tenure
+abbrev pub OfTwoTenures : List Message → Ticket → Ticket → Type 0
+OfTwoTenures pool ticket ticket' = (grant grant' : Grant) (slot : Slot) → SentUnder pool ticket grant
+    → SentUnder pool ticket' grant' → Has grant slot → Has grant' slot → slot.folder.mode ≡ Shared → ⊥
 
 -- and the ask that it answers wants the folder
 abbrev pub WantedUnder : List Message → Ticket → FolderName → Type 0
@@ -227,13 +226,13 @@ module _ (sha : List ℕ → Digest) (limits : Limits) where
         → (slot : Slot)
         → (after farm event).ledger.line slot
         ≡ farm.ledger.line slot ++ adds limits.empty farm.pool event outcome.note slot
-    -- from an accepted begin on, until an event that ends it, none begins with one of its PRIVATE instances or its tenure
-    pub alone : (node node' : NodeId) (ticket ticket' : Ticket) (late : List Event) (outcome outcome' : Outcome)
+    -- from an accepted begin on, until an event that ends it, none begins under a tenure that it has
+    pub tenures : (node node' : NodeId) (ticket ticket' : Ticket) (late : List Event) (outcome outcome' : Outcome)
         → answer farm (Begin node ticket) ≡ Ok outcome
         → GoesOn node ticket late (after farm (Begin node ticket))
         → let later : Farm = after_all (after farm (Begin node ticket)) late in
         answer later (Begin node' ticket') ≡ Ok outcome'
-        → NoneShared later.pool ticket ticket'
+        → OfTwoTenures later.pool ticket ticket'
     -- each Grant ever sent answers an ask that was sent, and has the slots that it wanted
     pub wanted : (grant : Grant) → In (Told (told.Granted grant)) farm.pool → (wants : List Want)
         × In (acquire grant.node grant.life grant.ask wants (is_tenure grant.kind)) farm.pool

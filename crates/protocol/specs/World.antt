@@ -58,27 +58,37 @@ keep digest content store other = if digest_eq other digest then Some content el
 abbrev pub without : Digest → (Digest → Option (List ℕ)) → Digest → Option (List ℕ)
 without digest store other = if digest_eq other digest then None else store other
 
--- an ask that is present and whose wants have the folder is the tenure of it
-pub data IsTenureOf (folder : FolderName) : KeptAsk → Type 0 where
-  Asked_tenure : (want : Want) (wants : List Want)
-      → In want wants
-      → (want.folder ≡ folder)
-      → IsTenureOf folder (Open wants true)
-  Held_tenure : (want : Want) (wants : List Want) (grant : Grant) (recalled : Bool)
-      → In want wants
-      → (want.folder ≡ folder)
-      → (is_tenure grant.kind ≡ true)
-      → IsTenureOf folder (Holding wants grant recalled)
-  Running_tenure : (want : Want) (wants : List Want) (grant : Grant) (recalled : Bool)
-      → In want wants
-      → (want.folder ≡ folder)
-      → (is_tenure grant.kind ≡ true)
-      → IsTenureOf folder (Running wants grant recalled)
-  Finished_tenure : (want : Want) (wants : List Want) (grant : Grant) (news : List News)
-      → In want wants
-      → (want.folder ≡ folder)
-      → (is_tenure grant.kind ≡ true)
-      → IsTenureOf folder (Finished wants grant news)
+-- what an ask wants that isn't over
+abbrev pub wants_of : KeptAsk → List Want
+wants_of (Open wants tenure) = wants
+wants_of (Holding wants grant recalled) = wants
+wants_of (Running wants grant recalled) = wants
+wants_of (Finished wants grant news) = wants
+wants_of (Over ending) = []
+
+-- an ask that isn't over is for a tenure
+abbrev pub for_tenure : KeptAsk → Bool
+for_tenure (Open wants tenure) = tenure
+for_tenure (Holding wants grant recalled) = is_tenure grant.kind
+for_tenure (Running wants grant recalled) = is_tenure grant.kind
+for_tenure (Finished wants grant news) = is_tenure grant.kind
+for_tenure (Over ending) = false
+
+-- the ask is open, granted or running, and this is one of its wants
+abbrev pub WantsNow : KeptAsk → Want → Type 0
+WantsNow (Open wants tenure) want = In want wants
+WantsNow (Holding wants grant recalled) want = In want wants
+WantsNow (Running wants grant recalled) want = In want wants
+WantsNow (Finished wants grant news) want = ⊥
+WantsNow (Over ending) want = ⊥
+
+-- one of the wants has the folder
+abbrev pub HaveFolder : List Want → FolderName → Type 0
+HaveFolder wants folder = (want : Want) × In want wants × (want.folder ≡ folder)
+
+-- the ask is the tenure of the folder, and isn't over
+abbrev pub IsTenureOf : FolderName → KeptAsk → Type 0
+IsTenureOf folder kept = (for_tenure kept ≡ true) × HaveFolder (wants_of kept) folder
 
 -- the tenure of the folder is in use here, recalled or not
 abbrev pub RunsTenure : List KeptAsk → FolderName → Bool → Type 0
@@ -90,19 +100,8 @@ RunsTenure asks folder recalled =
     × (want.folder ≡ folder)
 
 -- the ask wants the folder, and is open, granted or running
-pub data Uses (folder : FolderName) : KeptAsk → Type 0 where
-  Open_uses : (want : Want) (wants : List Want) (tenure : Bool)
-      → In want wants
-      → (want.folder ≡ folder)
-      → Uses folder (Open wants tenure)
-  Held_uses : (want : Want) (wants : List Want) (grant : Grant) (recalled : Bool)
-      → In want wants
-      → (want.folder ≡ folder)
-      → Uses folder (Holding wants grant recalled)
-  Running_uses : (want : Want) (wants : List Want) (grant : Grant) (recalled : Bool)
-      → In want wants
-      → (want.folder ≡ folder)
-      → Uses folder (Running wants grant recalled)
+abbrev pub Uses : FolderName → KeptAsk → Type 0
+Uses folder kept = (want : Want) × WantsNow kept want × (want.folder ≡ folder)
 
 -- a tenure may end only where no other ask of the node uses its folder
 abbrev pub Idle : List KeptAsk → ℕ → List Want → Grant → Type 0
@@ -113,6 +112,26 @@ Idle asks place wants grant =
     → other_place ≢ place
     → Uses want.folder kept
     → ⊥
+
+-- the tenure of each SHARED want is in use here and not recalled
+abbrev pub AreAtHome : List KeptAsk → List Want → Type 0
+AreAtHome asks wants = (want : Want) → In want wants → wants_shared want ≡ true → RunsTenure asks want.folder false
+
+-- no ask is the tenure of the folder
+abbrev pub HasNoTenure : List KeptAsk → FolderName → Type 0
+HasNoTenure asks folder = (place : ℕ) (kept : KeptAsk) → nth asks place ≡ Some kept → IsTenureOf folder kept → ⊥
+
+-- the ask isn't open
+abbrev pub IsNotOpen : List KeptAsk → Ask → Type 0
+IsNotOpen asks ask = (wants : List Want) (tenure : Bool) → nth asks ask.0 ≢ Some (Open wants tenure)
+
+-- the ask hasn't the grant, or its end is known
+abbrev pub HasNotGrant : List KeptAsk → Grant → Type 0
+HasNotGrant asks grant = (kept : KeptAsk) → nth asks grant.ask.0 ≡ Some kept → keeps kept grant.ticket ≡ false
+
+-- the contents from which an execution begins are stored
+abbrev pub AreStored : (Digest → Option (List ℕ)) → List GrantedSlot → Type 0
+AreStored store slots = (granted : GrantedSlot) → In granted slots → (content : List ℕ) × (store granted.digest ≡ Some content)
 
 -- the node in a new life, which has no ask
 abbrev pub has_life : Node → ℕ → Node
@@ -127,20 +146,22 @@ pub record World : Type 0 where
   pub nodes : ℕ → Node
 
 module _ (sha : List ℕ → Digest) where
+  -- what is stored later is what was, and contents under their digests
+  abbrev pub AddsContents : (Digest → Option (List ℕ)) → (Digest → Option (List ℕ)) → Type 0
+  AddsContents store later = (digest : Digest) (content : List ℕ) → later digest ≡ Some content
+      → (store digest ≡ Some content) ⊎ (sha content ≡ digest)
+
   -- what a node with this number does: the messages that it sends, and its next state. `sha` gives a content's digest
   pub data Act (pool : List Message) (node : NodeId) (state : Node) : List Message → Node → Type 0 where
     -- a new ask: its number is one above the last
     Asks : (wants : List Want)
-        -- the tenure of each SHARED want is in use here and not recalled
-        → ((want : Want) → In want wants → wants_shared want ≡ true → RunsTenure state.asks want.folder false)
+        → AreAtHome state.asks wants
         → Act pool node state
         (acquire node state.life (record { 0 = length state.asks + 1 }) wants false ∷ [])
         (record state { asks = state.asks ++ Open wants false ∷ [] })
     -- a new ask for the tenure of a folder, where no ask of the node is that tenure
     Asks_tenure : (folder : FolderName)
-        → ((place : ℕ) (kept : KeptAsk) → nth state.asks place ≡ Some kept
-        → IsTenureOf (record folder { mode = Shared }) kept
-        → ⊥)
+        → HasNoTenure state.asks (record folder { mode = Shared })
         → Act pool node state
         (acquire node state.life (record { 0 = length state.asks + 1 }) (tenure_wants folder) true ∷ [])
         (record state { asks = state.asks ++ Open (tenure_wants folder) true ∷ [] })
@@ -163,16 +184,13 @@ module _ (sha : List ℕ → Digest) where
         })
     -- a Grant that no ask waits for or has is given back
     Gives_back : (grant : Grant) → In (Told (told.Granted grant)) pool → (grant.node ≡ node) → (grant.life ≡ state.life)
-        -- the ask isn't open, and hasn't this grant
-        → ((wants : List Want) (tenure : Bool) → nth state.asks grant.ask.0 ≢ Some (Open wants tenure))
-        → ((kept : KeptAsk) → nth state.asks grant.ask.0 ≡ Some kept → keeps kept grant.ticket ≡ false)
+        → IsNotOpen state.asks grant.ask
+        → HasNotGrant state.asks grant
         → Act pool node state (release node state.life grant.ticket ∷ []) state
     -- an execution begins
     Begins : (wants : List Want) (grant : Grant) (recalled : Bool) (place : ℕ)
         → (nth state.asks place ≡ Some (Holding wants grant recalled))
-        -- all base contents are stored
-        → ((granted : GrantedSlot) → In granted grant.slots
-        → (content : List ℕ) × (state.store granted.digest ≡ Some content))
+        → AreStored state.store grant.slots
         → Act pool node state [] (record state { asks = set_nth state.asks place (Running wants grant recalled) })
     -- an execution ends with news, which are sent
     Finishes : (wants : List Want) (grant : Grant) (recalled : Bool) (place : ℕ)
@@ -181,9 +199,7 @@ module _ (sha : List ℕ → Digest) where
         → Idle state.asks place wants grant
         → (slots_of news ≡ written grant.slots)
         → (news ≢ [])
-        -- what is stored is what was, and contents under their digests
-        → ((digest : Digest) (content : List ℕ) → store digest ≡ Some content
-        → ((state.store digest ≡ Some content) ⊎ (sha content ≡ digest)))
+        → AddsContents state.store store
         → Act pool node state
         (commit node state.life grant.ticket news ∷ [])
         (record state { asks = set_nth state.asks place (Finished wants grant news); store = store })
