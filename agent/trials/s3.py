@@ -10,9 +10,12 @@ from __future__ import annotations
 import array
 import contextlib
 import importlib
+import json
+import math
 import os
 import subprocess
 import sys
+from time import time as clock
 from typing import Any, Callable, Iterable, Iterator, NamedTuple
 
 PYTHON = "/usr/bin/python3"  # swift is Debian's
@@ -29,13 +32,10 @@ container_update_timeout = 60
 fallocate_reserve = 0
 """
 FRONT = f"""[pipeline:main]
-pipeline = catch_errors gatekeeper cache listing_formats s3api tempauth copy dlo versioned_writes proxy-server
+pipeline = catch_errors gatekeeper listing_formats s3api tempauth copy dlo versioned_writes proxy-server
 [app:proxy-server]
 use = egg:swift#proxy
 account_autocreate = true
-[filter:cache]
-use = egg:swift#memcache
-memcache_servers = 127.0.0.1:1
 [filter:tempauth]
 use = egg:swift#tempauth
 user_{USER.replace(":", "_")} = {SECRET} .admin
@@ -97,9 +97,29 @@ def write(path: str, text: str) -> str:
     return path
 
 
+class Memory:
+    """What swift keeps in memcached: without it each request asks for the account and the bucket."""
+
+    def __init__(self) -> None:
+        self.kept: dict[str, tuple[str, float]] = {}
+
+    def get(self, key: str, **_words: object) -> Any:
+        text, end = self.kept.get(key, ("null", 0.0))
+        return json.loads(text) if clock() < end else None
+
+    def set(self, key: str, value: Any, time: float = 0, **_words: object) -> None:
+        self.kept[key] = json.dumps(value), clock() + time if time else math.inf
+
+    def delete(self, key: str, **_words: object) -> None:
+        self.kept.pop(key, None)
+
+
 def faulty(room: str, app: Any, sleep: Callable[[float], None]) -> Any:
     """Answers as `fault` has it, else as the application does."""
+    memory = Memory()
+
     def answer(environ: Any, begin: Any) -> Iterable[bytes]:
+        environ["swift.cache"] = memory
         words = list[str]()
         with contextlib.suppress(OSError), open(f"{room}/fault") as file:
             words = file.read().split()
