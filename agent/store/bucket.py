@@ -187,11 +187,20 @@ class Bucket:
                 return now, entries
             place = {"ContinuationToken": said["NextContinuationToken"]}
 
-    def delete(self, keys: Sequence[str], tries: int = TRIES) -> None:
-        """Deletes keys, of which some may be gone."""
-        for at in range(0, len(keys), DELETED_AT_ONCE):
+    def delete(self, keys: Sequence[str], tries: int = TRIES) -> bool:
+        """Deletes keys, of which some may be gone. Whether the store answered at once: what it didn't answer it may do later."""
+        asked = 0
+
+        def ask(some: object) -> Any:
+            nonlocal asked
+            asked += 1
+            return self.client.delete_objects(Bucket=self.name, Delete=some)
+
+        turns = range(0, len(keys), DELETED_AT_ONCE)
+        for at in turns:
             some = {"Objects": [{"Key": self.front + key} for key in keys[at : at + DELETED_AT_ONCE]], "Quiet": True}
-            said: Any = self._tried(functools.partial(self.client.delete_objects, Bucket=self.name, Delete=some), tries)
+            said: Any = self._tried(functools.partial(ask, some), tries)
             for each in said.get("Errors", ()):
                 if each.get("Code") not in ABSENT:
                     raise BucketFault(f"{each.get('Key')} wasn't deleted: {each.get('Code')} {each.get('Message')}")
+        return asked == len(turns)

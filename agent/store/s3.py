@@ -7,8 +7,8 @@ without conditions, so both sides say what they are about before they look at wh
   what it needs under keys that never were, KEY.RANDOM, which who misses KEY finds by its front;
 - who forgets puts which keys it is about to delete, and then reads what is held, asks what is needed, and leaves all of that alone.
 
-So one of the two has seen the other. What was about to be deleted stays told as long as its deleter may live: one alone forgets, on the
-coordinator's machine, under a lock of that machine, and what killed ones before it were about to delete is as good as its own.
+So one of the two has seen the other. One alone forgets, on the coordinator's machine, under a lock of that machine. What was about to be
+deleted stays told until the store has answered; where it didn't, or the one that forgot was killed, as long as it may do it yet.
 """
 from __future__ import annotations
 
@@ -29,6 +29,8 @@ from agent.store.shared import AWAY, SharedStore, most_packed
 
 PAUSE_LEAST, PAUSE_MOST = 0.5, 5.0  # seconds before a store that was away is tried again
 CONDEMNED_MOST = 10_000  # keys that are about to be deleted at once
+LATE = 3600.0  # seconds for which a store may do what it was asked: S3 refuses what comes later than a quarter of an hour
+TOLD_MOST = 100_000  # keys that may be deleted late
 LOOKED_FOR = 2  # times that an index is asked for: a node hears nothing else meanwhile, and the other nodes may have it
 LIST_MOST = 16 << 20  # bytes of a list of such keys
 MARK_MOST = 1 << 10  # bytes
@@ -135,13 +137,17 @@ class S3Store(SharedStore):
                 self.compared.clear()
         return Forgetters(there, frozenset(keys))
 
-    def _condemned(self) -> tuple[list[str], list[str]]:
-        """Where it stands who forgot or forgets, and the keys that are about to be deleted."""
-        there = self.bucket.listed("forgets/")[1]
+    def _condemned(self) -> tuple[list[str], dict[str, float]]:
+        """Where it stands who forgot or forgets, and the keys that are about to be deleted, since when by the store's clock."""
+        there, keys = self.bucket.listed("forgets/")[1], dict[str, float]()
         if any(each.size > LIST_MOST for each in there):
             raise BucketFault(f"below forgets/ it has more than {LIST_MOST} bytes at once")
-        lists = [self.bucket.get(each.key, LIST_MOST) or b"" for each in there if each.size]
-        return [each.key for each in there], [key for told in lists for key in told.decode().split()]
+        for each in there:
+            text = self.bucket.get(each.key, LIST_MOST) if each.size else None
+            for line in (text or b"").decode(errors="replace").splitlines():
+                key, _, since = line.partition(" ")
+                keys[key] = int(since) if since.isdecimal() else each.put
+        return [each.key for each in there], keys
 
     # What is got.
 
@@ -290,8 +296,8 @@ class _Forgetting:
         unused = [each for each in chunks if digest_of(each) not in self.used and each.put <= now - grace and (had is None or digest_of(each) in had)]
         keys = [each.key for each in gone + unused]
         for at in range(0, len(keys) or bool(told), CONDEMNED_MOST):
-            before = [self._delete(keys[at : at + CONDEMNED_MOST], told, before)]
-            told = []
+            told = {key: since for key, since in told.items() if since > now - LATE}
+            before, told = self._delete(dict.fromkeys(keys[at : at + CONDEMNED_MOST], now), told, before)
 
     def _look(self) -> set[str]:
         """Learns what is held and needed. The digests that are needed now, and weren't."""
@@ -311,19 +317,25 @@ class _Forgetting:
                 is_whole = False
         return is_whole
 
-    def _delete(self, keys: list[str], told: list[str], before: list[str]) -> str:
-        """Deletes what isn't needed of these, in the place of those that forgot before. The key that says so."""
+    def _delete(self, keys: dict[str, float], told: dict[str, float], before: list[str]) -> tuple[list[str], dict[str, float]]:
+        """Deletes what isn't needed of these, in the place of those that forgot before. Where it says so, and what it still says then."""
+        if len(told) > TOLD_MOST:
+            raise FarmFault(f"{self.store.name} forgot nothing more: it may delete {len(told)} objects late, which it was asked to, and didn't answer")
         own = f"forgets/{secrets.token_hex(8)}"
-        self.bucket.put(own, "\n".join([*keys, *told]).encode())
+        self.bucket.put(own, told_text(told | keys))
         self.bucket.delete(before)
         if not self._use(self._look(), lambda digest: None):
             raise FarmFault(f"{self.store.name} forgot nothing more: a commit came meanwhile that can't be read. Begin it anew")
         gone = [key for key in keys if part_of(key) not in self.needed and part_of(key) not in self.used]
-        self.bucket.delete(gone)
+        told = told if self.bucket.delete(gone) else told | keys
         self.indexes += sum(key.startswith("index/") for key in gone)
         self.chunks += sum(key.startswith("chunk/") for key in gone)
-        self.bucket.put(own, b"")
-        return own
+        self.bucket.put(own, told_text(told))
+        return [own], told
+
+
+def told_text(keys: dict[str, float]) -> bytes:
+    return "".join(f"{key} {since:.0f}\n" for key, since in keys.items()).encode()
 
 
 def part_of(key: str) -> str:

@@ -228,6 +228,33 @@ class Over(support.FarmTest):
         other.forget(set, EVER)
         self.assertEqual([self.keys(maker, kind) for kind in ("chunk/", "index/")], [[], []])
 
+    def test_late(self) -> None:
+        """What the store was asked to delete it may delete after its asker has given up, or was killed: after a commit that needs it too."""
+        for number, fault in enumerate((OSError("no answer"), KeyboardInterrupt())):
+            self.url = f"{self.place.url}/late{number}"
+            maker, other = self.store(f"maker{number}", "1"), self.store(f"other{number}")
+            index, digest = support.kept(maker, self.path("tree"))
+            late, delete = list[dict[str, object]](), other.bucket.client.delete_objects
+
+            def unanswered(**words: dict[str, list[dict[str, str]]]) -> object:
+                if late or not any("/chunk/" in each["Key"] for each in words["Delete"]["Objects"]):
+                    return delete(**words)
+                late.append(dict(words))
+                raise fault
+
+            with mock.patch.object(other.bucket.client, "delete_objects", unanswered), contextlib.suppress(KeyboardInterrupt):
+                other.forget(set, EVER)
+            other.forget(set, EVER)
+            with maker.making():
+                maker.publish(make_whole(maker, self.path("tree")))
+            delete(**late[0])
+            reader = self.store(f"reader{number}")
+            trees.extract(reader, reader.index(digest) or b"", self.path(f"late{number}"))
+            self.assertEqual(self.read(f"late{number}/f"), "text" * 1000)
+            with mock.patch.object(s3, "LATE", EVER):  # then nothing is deleted late any more
+                other.forget(lambda: {digest}, EVER)
+            self.assertEqual(other._condemned()[1], {})
+
     @unittest.skipUnless(support.has("redis-server"), support.needs("redis-server"))
     def test_farm(self) -> None:
         """Two nodes with homes of their own. What the agents sign with no command sees."""

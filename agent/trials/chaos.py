@@ -41,6 +41,7 @@ KINDS: dict[str, type[Farm]] = {"pipes": Pipes, "redis": OverRedis, "machines": 
 COMMON, SPELL = 0.3, 2.0  # the share of commands at one path for all nodes, each in its node's network, and the seconds for which it is that path
 CALM = 240.0  # seconds in which an undisturbed farm has to do its last commands, on a machine that others may have
 CHOICES = [["locked:a"], ["locked:a"], ["locked:b"], ["locked:a", "locked:b"], ["locked:a", "ro=locked:b"], ["private:p"], ["shared:s"]]
+TROUBLES = ("503", "slow 0.5", "slow 5", "slow 12", "lost", "unanswered", "repeated")  # what a bucket does to requests
 SPOILT = 99  # the status of a command that found a folder in a state that no command leaves
 
 # What is done to the farm, in an order that each round draws anew.
@@ -221,7 +222,7 @@ class Chaos:
             farm.kill_redis(dice.random() * 2)
             self.count("Redis killed")
         elif what == "store" and isinstance(farm, OverS3):
-            farm.trouble(how := dice.choice(["503", "slow 0.5", "slow 5"]), dice.uniform(1, 6))
+            farm.trouble(how := dice.choice(TROUBLES), dice.uniform(1, 6))
             self.count(f"times that the bucket answered {how}")
         elif what == "object" and isinstance(farm, OverS3):
             self.spoilt_objects.add(farm.spoil(dice) or "")

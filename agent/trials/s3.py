@@ -3,20 +3,25 @@
 
 usage: agent/trials/s3.py ROOM    says `up PORT`, and serves until its standard input ends
 
-What the file ROOM/fault has is done to each request as long as it is there: `503` refuses it, `slow SECONDS` lets it wait.
+What the file ROOM/fault has is done to each request as long as it is there: `503` refuses it, `slow SECONDS` lets it wait, also where its asker
+gives up meanwhile, `repeated` carries it out twice; `lost` and `unanswered` close the connections of half of them, before or after they are
+carried out.
 """
 from __future__ import annotations
 
 import array
 import contextlib
 import importlib
+import io
 import json
 import math
 import os
+import random
+import socket
 import subprocess
 import sys
 from time import time as clock
-from typing import Any, Callable, Iterable, Iterator, NamedTuple
+from typing import Any, Iterable, Iterator, NamedTuple
 
 PYTHON = "/usr/bin/python3"  # swift is Debian's
 USER, SECRET, BUCKET = "farm:tester", "testing", "contents"
@@ -114,24 +119,42 @@ class Memory:
         self.kept.pop(key, None)
 
 
-def faulty(room: str, app: Any, sleep: Callable[[float], None]) -> Any:
+class Faulty:
     """Answers as `fault` has it, else as the application does."""
-    memory = Memory()
 
-    def answer(environ: Any, begin: Any) -> Iterable[bytes]:
-        environ["swift.cache"] = memory
+    def __init__(self, room: str, app: Any, eventlet: Any) -> None:
+        self.room, self.app, self.eventlet = room, app, eventlet
+        self.memory = Memory()
+
+    def __call__(self, environ: Any, begin: Any) -> Iterable[bytes]:
+        environ["swift.cache"] = self.memory
         words = list[str]()
-        with contextlib.suppress(OSError), open(f"{room}/fault") as file:
+        with contextlib.suppress(OSError), open(f"{self.room}/fault") as file:
             words = file.read().split()
-        if words[:1] == ["slow"]:
-            sleep(float(words[1]))
-        elif words:
-            environ["wsgi.input"].read(int(environ.get("CONTENT_LENGTH") or 0))
+        if words and words[0] in ("503", "lost", "unanswered", "repeated"):
+            environ["wsgi.input"] = io.BytesIO(environ["wsgi.input"].read(int(environ.get("CONTENT_LENGTH") or 0)))
+        if words[:1] == ["503"]:
             begin("503 Slow Down", [("Content-Type", "application/xml")])
             return [b"<Error><Code>SlowDown</Code><Message>Please reduce your request rate.</Message></Error>"]
-        return app(environ, begin)  # type: ignore[no-any-return]
+        if words[:1] == ["slow"]:
+            self.eventlet.sleep(float(words[1]))
+        elif words[:1] == ["repeated"]:
+            self._carry_out(environ)
+        elif words and random.random() < 0.5:
+            if words[:1] == ["unanswered"]:
+                self._carry_out(environ)
+            environ["eventlet.input"]._sock.shutdown(socket.SHUT_RDWR)
+            begin("500 Cut", [])
+            return []
+        return self.app(environ, begin)  # type: ignore[no-any-return]
 
-    return answer
+    def _carry_out(self, environ: Any) -> None:
+        """Does what is asked, and answers nobody."""
+        answer = self.app({**environ, "wsgi.input": io.BytesIO(environ["wsgi.input"].getvalue())}, lambda *_words: None)
+        for _ in answer:
+            pass
+        if hasattr(answer, "close"):
+            answer.close()
 
 
 def serve(room: str) -> None:
@@ -154,7 +177,7 @@ def serve(room: str) -> None:
         text = FRONT if name == "proxy" else f"[pipeline:main]\npipeline = {name}-server\n[app:{name}-server]\nuse = egg:swift#{name}\n"
         app = swift["wsgi"].loadapp(write(f"{room}/{name}-server.conf", COMMON.format(room=room) + text), global_conf={})
         if name == "proxy":
-            app = faulty(room, app, eventlet.sleep)
+            app = Faulty(room, app, eventlet)
         protocol = swift["wsgi"].SwiftHttpProtocol
         eventlet.spawn(eventlet.wsgi.server, listens, app, log=open(os.devnull, "w"), log_output=False, protocol=protocol, keepalive=True)
     eventlet.spawn(_begin, eventlet, sockets["proxy"].getsockname()[1])
