@@ -198,10 +198,16 @@ def _look_at_farm(home: str) -> Iterator[Finding]:
         yield Finding(f"the coordinator: ticket {told.tickets}, {len(told.leases)} leases, {len(told.waiting)} asks wait")
         for number, at in sorted(told.heard.items(), key=lambda each: int(each[0])):
             silent = time.time() - at
+            if int(number) in told.gone:
+                if silent <= SILENT:
+                    yield Finding(f"node {number}", "it was retired, and its agent still runs: end it", is_warning=True)
+                continue
             trouble = f"it wasn't heard for {silent:.0f} s: if it is gone for good, farm retire {number} --gone" if silent > SILENT else ""
             yield Finding(f"node {number}", trouble, is_warning=True)
+    elif nodes and os.path.exists(f"{home}/joined"):
+        yield Finding("the coordinator: it runs on another machine")
     elif nodes:
-        yield Finding("the coordinator", "it runs on another machine", is_warning=not os.path.exists(f"{home}/joined"))
+        yield Finding("the coordinator", f"it doesn't answer at {path}: end the farm's agent, and start it again")
     else:
         yield Finding("a farm", f"none runs in {home}: farm run starts one, and farm up one that lasts", is_warning=True)
     for place in {client.told_at(each, StoreRequest(), StorePlace, shows=False) for each in (nodes or [path]) if client.is_there(each)}:

@@ -452,7 +452,10 @@ class Apart(support.FarmTest):
             self.assertIn("node.key is missing", self.asked("node", "1", "--home", self.path("n1"), "--broker", url, status=64))
             for node in ("1", "2"):
                 self.asked("key", node, self.path(f"n{node}/node.key"))
+                self.assertIn("of a farm over a broker", self.run_on(int(node), "true", 70))  # with the key of a node no farm of its own begins
+                self.assertIn("of a farm over a broker", self.asked("up", "--home", self.path(f"n{node}"), status=64))
                 self.up("node", node, "--home", self.path(f"n{node}"), "--broker", url)
+            self.assertIn("well: the coordinator: it runs on another machine", self.asked("doctor", "--home", self.path("n1")))
             for number in range(3):
                 self.run_on(1 + number % 2, f"head -c 200000 /dev/urandom > w{1 + number % 2}/f{number}")
             self.assertRegex(self.asked("gc", "--keep", "1", "--grace", "0"), "Redis forgot 2 indexes and [0-9]+ chunks")
@@ -465,6 +468,8 @@ class Apart(support.FarmTest):
             self.assertIn("f0 f1 f2", said)
             self.assertIn("the other nodes are asked for them", said)
             self.alone(url)
+            self.asked("expel", "2")
+            self.assertIn("warning: node 2: it was retired, and its agent still runs", self.asked("doctor"))
             self.end()
 
     def test_broker_users(self) -> None:
