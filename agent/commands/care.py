@@ -47,9 +47,12 @@ def do_restore(args: argparse.Namespace) -> int:
     folder, _, number = args.version.rpartition("@")
     if not folder or not number.isdecimal():
         raise UsageFault(f"{args.version} names no version: FOLDER@NUMBER")
+    by = args.by or args.home
+    if client.is_there(f"{by}/coordinator.sock") and next(node_sockets(by), None) is None:
+        raise FarmFault(f"no node runs in {by}: --by names the home of one that runs on this machine")
     with tempfile.TemporaryDirectory(prefix="farm-restore-") as room:
         do_get(argparse.Namespace(home=args.home, folder=args.version, to=f"{room}/held", lost=False))
-        return do_put(argparse.Namespace(home=args.home, node=args.node, wait=args.wait, folder=folder, source=f"{room}/held"))
+        return do_put(argparse.Namespace(home=by, node=args.node, wait=args.wait, folder=folder, source=f"{room}/held"))
 
 
 KEPT = ("key", "record", "record.log", "known", "lost")  # of a coordinator's home: without these the farm can't go on as it was

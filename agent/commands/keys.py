@@ -16,7 +16,7 @@ from agent.transport.keys import FARM_NAME, NODE_NAME, FarmKey
 from agent.transport.local import COORDINATOR, node_address
 
 OF_NODES = "+ping +select +time +xadd +xread +xrevrange +get +exists +set +zadd +zscore +hset +hdel +hkeys +hgetall +incr +eval"
-OF_COORDINATOR = f"{OF_NODES} +del +zrem +scan +config|get"
+OF_COORDINATOR = f"{OF_NODES} +del +zrem +scan +strlen +config|get"
 
 
 def farm_key(home: str) -> FarmKey:

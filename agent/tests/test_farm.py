@@ -486,6 +486,9 @@ class Apart(support.FarmTest):
                 self.up("node", str(node), "--nodes", "2", "--home", self.path(f"n{node}"), "--broker", url.replace("coordinator", f"node{node}"))
                 self.assertIn(f"version {node}", self.run_on(node, f"echo {node} >> w{node}/f"))
             self.assertEqual(self.read("w2/f"), "1\n2\n")
+            self.assertRegex(self.asked("du"), "^locked:c: .*; 2 of 2 versions are kept\n")
+            self.assertIn("--by names", self.asked("restore", "locked:c@1", status=70))
+            self.assertIn("version 3", self.farm("restore", "locked:c@1", "--by", self.path("n1")).stderr)
             self.assertRegex(self.asked("gc", "--keep", "1", "--grace", "0"), "Redis forgot 1 index")
             key = node_key(self.path("n1/node.key"))
             server, lines = Redis(signed_in(url.replace("coordinator", "node1"), key.password())), f"farm-{key.names.lines()}:to"
