@@ -31,6 +31,7 @@ sys.path.insert(0, str(Path(__file__).resolve().parents[2]))
 from agent.store.chunks import chunk_names  # noqa: E402
 from agent.runs.executions import can_have_namespaces  # noqa: E402
 from agent.faults import FarmFault  # noqa: E402
+from agent.store.bucket import BucketAway  # noqa: E402
 from agent.store.redis import RedisStore  # noqa: E402
 from agent.store.folder import FolderStore, Store  # noqa: E402
 from agent.trials.farms import PYTHON_FARM, Attacker, Farm, Machines, OverRedis, OverS3, Pipes, kill  # noqa: E402
@@ -225,8 +226,11 @@ class Chaos:
             farm.trouble(how := dice.choice(TROUBLES), dice.uniform(1, 6))
             self.count(f"times that the bucket answered {how}")
         elif what == "object" and isinstance(farm, OverS3):
-            self.spoilt_objects.add(farm.spoil(dice) or "")
-            self.count("objects spoilt or lost")
+            try:
+                self.spoilt_objects.add(farm.spoil(dice) or "")
+                self.count("objects spoilt or lost")
+            except BucketAway:
+                self.count("times that the bucket was too slow to be spoilt")
         elif what == "cut" and isinstance(farm, Machines):
             before = self.commits()
             farm.cut(dice.randrange(2, NODES + 1), dice.uniform(1, 9))
