@@ -15,6 +15,7 @@ from __future__ import annotations
 import contextlib
 import fcntl
 import hashlib
+import re
 import secrets
 import time
 from concurrent.futures import ThreadPoolExecutor
@@ -30,10 +31,14 @@ from agent.store.shared import AWAY, SharedStore, most_packed
 PAUSE_LEAST, PAUSE_MOST = 0.5, 5.0  # seconds before a store that was away is tried again
 CONDEMNED_MOST = 10_000  # keys that are about to be deleted at once
 LATE = 3600.0  # seconds for which a store may do what it was asked: S3 refuses what comes later than a quarter of an hour
+LISTED_FROM = 1_000  # chunks: what is there of as many is listed, where that takes fewer requests than to ask for each
+ITEMS_MOST = 1_024  # of what is done at once
 TOLD_MOST = 100_000  # keys that may be deleted late
 LOOKED_FOR = 2  # times that an index is asked for: a node hears nothing else meanwhile, and the other nodes may have it
 LIST_MOST = 16 << 20  # bytes of a list of such keys
 MARK_MOST = 1 << 10  # bytes
+
+HEX = re.compile("[0-9a-f]{4}")
 
 T = TypeVar("T")
 U = TypeVar("U")
@@ -51,9 +56,11 @@ NOBODY = Forgetters(frozenset(), frozenset())
 
 def at_once(does: Callable[[T], U], items: Iterable[T]) -> list[U]:
     """Does something for each, several at once. With the first fault what wasn't begun is left."""
-    pool = ThreadPoolExecutor(AT_ONCE)
+    pool, left, done = ThreadPoolExecutor(AT_ONCE), list(items), list[U]()
     try:
-        return list(pool.map(does, items))
+        for at in range(0, len(left), ITEMS_MOST):  # what waits for its turn takes two kilobytes each
+            done += pool.map(does, left[at : at + ITEMS_MOST])
+        return done
     finally:
         pool.shutdown(cancel_futures=True)
 
@@ -227,6 +234,7 @@ class _Sending:
         self.held = "" if is_anew else store._hold(digest)
         self.missing: dict[str, None] | None = None  # chunks that aren't known to be there; none until that was looked for
         self.forgetters = NOBODY
+        self.tags: dict[str, str] | None = None  # of the keys of chunks that are there; none where each is asked for
         self.spoilt = list[str]()  # what was replaced
 
     def left(self) -> int:
@@ -240,6 +248,7 @@ class _Sending:
             self.forgetters = store._forgetters()
             with store.lock:
                 self.missing = {name: None for name in self.sizes if self.is_anew or name not in store.compared}
+            self.tags = self._listed({f"chunk/{name}" for name in self.missing})
         try:
             at_once(self._give_chunk, list(self.missing))
             self._give(f"index/{self.digest}", self.index, lambda data: data == self.index)
@@ -247,6 +256,17 @@ class _Sending:
             if self.spoilt:
                 tell_people(f"{store.name} had {len(self.spoilt)} spoilt objects, {self.spoilt[0]} among them: they are replaced by what they name")
                 self.spoilt.clear()
+
+    def _listed(self, keys: set[str]) -> dict[str, str] | None:
+        """The ETags of those of these keys that are there. None where listings take too many requests, as the first ones tell: names are digests."""
+        tags = dict[str, str]()
+        if len(keys) < LISTED_FROM:
+            return None
+        for number, (_, entries) in enumerate(self.store.bucket.pages("chunk/"), 1):
+            tags.update((each.key, each.tag) for each in entries if each.key in keys)
+            if entries and number > how_far(entries[-1]) * len(keys) / AT_ONCE:
+                return None
+        return tags
 
     def _give_chunk(self, name: str) -> None:
         assert self.missing is not None
@@ -265,7 +285,7 @@ class _Sending:
         if key in self.forgetters.keys:
             bucket.put(f"{key}.{secrets.token_hex(8)}", data)
             return True
-        tag = bucket.tag(key)
+        tag = bucket.tag(key) if self.tags is None or not key.startswith("chunk/") else self.tags.get(key)
         if tag == tag_of(data):
             return False
         if tag is not None:
@@ -341,6 +361,12 @@ def told_text(keys: dict[str, float]) -> bytes:
 def part_of(key: str) -> str:
     """The digest, or the chunk's name, of a key."""
     return key.partition("/")[2].partition(".")[0]
+
+
+def how_far(entry: Entry) -> float:
+    """Which share of all names comes up to this one's, in order."""
+    digits = digest_of(entry)[:4]
+    return (int(digits, 16) + 1) / 0x10000 if HEX.fullmatch(digits) else 0.0
 
 
 def digest_of(entry: Entry) -> str:

@@ -103,6 +103,31 @@ class Over(support.FarmTest):
             one.offer(digest)  # its ETags say nothing, as where the store has keys of its own: what is right there stays
         put.assert_not_called()
 
+    def test_many(self) -> None:
+        """Where much is to be given, what is there is listed, if that takes fewer requests than to ask for each; else each is asked for."""
+        for k in range(8):
+            self.write(f"tree/{k}", str(k) * 70_000)
+        support.kept(self.store("a"), self.path("tree"))
+        store = self.store("b")
+        for number, (keys, is_each_asked) in enumerate(((1000, False), (1, True))):
+            self.write("tree/new", os.urandom(100_000).hex())
+            index, _ = support.kept(maker := self.store(f"c{number}"), self.path("tree"))
+            names = chunk_names(index)
+            store.bucket.delete([f"chunk/{name}" for name in names[:2]])
+            store.bucket.put(f"chunk/{names[2]}", b"spoilt")
+            maker.compared.clear()
+            list_objects = store.bucket.client.list_objects_v2
+            with (
+                mock.patch.multiple(s3, LISTED_FROM=4, AT_ONCE=2, tell_people=mock.Mock()), mock.patch.object(maker.bucket, "tag", wraps=maker.bucket.tag) as asked,
+                mock.patch.object(maker.bucket.client, "list_objects_v2", lambda **words: list_objects(**words, MaxKeys=keys)),
+            ):
+                with maker.making():
+                    maker.publish(index)
+            self.assertEqual(asked.call_count, len(names) + 1 if is_each_asked else 1)
+            reader = self.store(f"d{number}")
+            trees.extract(reader, index, self.path(f"many{number}"))
+            self.assertEqual(self.read(f"many{number}/f"), "text" * 1000)
+
     def test_refused(self) -> None:
         self.store("a")
         with self.assertRaisesRegex(UsageFault, "the contents of another farm"):

@@ -2,7 +2,7 @@
 """Measures the agent on this machine, in one run: what `farm run` costs beside the command, a folder of a gigabyte, one of two in many
 files, and a source package built on three nodes with ccache in a leased folder, beside other places for it.
 
-usage: agent/trials/measure.py [start] [folder] [many] [modes] [ten] [burst] [large] [rounds SOURCE.tar.gz] [package SOURCE.tar.gz [MAKE WORDS..]]
+usage: agent/trials/measure.py [start] [folder] [many] [fewer] [modes] [ten] [burst] [large] [rounds SOURCE.tar.gz] [package SOURCE.tar.gz [MAKE WORDS..]]
 """
 from __future__ import annotations
 
@@ -105,21 +105,21 @@ class Watched:
         return f"{self._seconds() - self.begun:.0f} s of a processor, {memory}"
 
 
-def many(room: str) -> None:
-    """Two gigabytes in 50,000 files, of which a second version changes a hundredth, and a third one on the other node: with contents in a
+def many(room: str, number: int = 50_000) -> None:
+    """Many files of 40 kB, two gigabytes, of which a second version changes a hundredth, and a third one on the other node: with contents in a
     folder that both see, in Redis, and in a bucket."""
     write = (
-        "import os, sys\nfor k in range(0, 50_000, int(sys.argv[2])):\n  os.makedirs(f'{sys.argv[1]}/{k % 250}', exist_ok=True)\n"
+        f"import os, sys\nfor k in range(0, {number}, int(sys.argv[2])):\n  os.makedirs(f'{{sys.argv[1]}}/{{k % 250}}', exist_ok=True)\n"
         "  open(f'{sys.argv[1]}/{k % 250}/{k}', 'wb').write(os.urandom(40_000))"
     )
     with s3.server(f"{room}/swift") as bucket:
         os.environ.update(bucket.env)
         for place, contents in (("a folder", f"{room}/contents"), ("Redis", None), ("a bucket", bucket.url)):
             with apart(room, 2, contents) as farm:
-                for node, every, name in ((1, 1, "written"), (1, 100, "500 changed"), (2, 100, "filled elsewhere, 500 changed")):
+                for node, every, name in ((1, 1, "written"), (1, 100, "1 % changed"), (2, 100, "filled elsewhere, 1 % changed")):
                     watched = Watched(farm.agents[f"node{node}"].pid)
                     took = seconds(farm.run(node, f"locked:many={room}/w{node}", "python3", "-c", write, f"{room}/w{node}", str(every)))
-                    row(f"2 GB, 50,000 files, in {place}: {name}", f"{took:.1f} s", watched.end("agent"))
+                    row(f"{number / 25_000:.1f} GB, {number} files, in {place}: {name}", f"{took:.1f} s", watched.end("agent"))
             for node in (1, 2):
                 shutil.rmtree(f"{room}/w{node}")
 
@@ -345,7 +345,7 @@ def main() -> int:
     tar = os.path.abspath(words.pop(words.index("rounds") + 1)) if "rounds" in words else ""
     print(f"load {os.getloadavg()[0]:.1f}, {os.cpu_count()} processors", flush=True)
     jobs: dict[str, Callable[[str], None]] = {
-        "start": start, "folder": folder, "many": many, "modes": modes, "ten": ten, "burst": burst, "large": lambda room: burst(room, 40_000),
+        "start": start, "folder": folder, "many": many, "fewer": lambda room: many(room, 5_000), "modes": modes, "ten": ten, "burst": burst, "large": lambda room: burst(room, 40_000),
         "rounds": lambda room: rounds(room, tar), "package": lambda room: package(room, os.path.abspath(source[0]), source[1:]),
     }
     for name, job in jobs.items():
