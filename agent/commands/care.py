@@ -226,7 +226,7 @@ def _store(home: str, place: StorePlace) -> Finding:
         store_at(home, place).index("0" * 64)
         return Finding(what)
     except (FarmFault, OSError) as fault:
-        return Finding(what, str(fault))
+        return Finding(what, str(fault).removeprefix(f"{what} "))
 
 
 LOOKS: tuple[Callable[[str], Iterator[Finding]], ...] = (_look_at_tools, _look_at_kernel, _look_at_isolation, _look_at_home, _look_at_farm)

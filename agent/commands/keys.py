@@ -60,6 +60,7 @@ def do_broker_users(args: argparse.Namespace) -> int:
         places = f"%W~{lines}:to:{COORDINATOR} %W~{lines}:to:node.* %RW~{lines}:to:{node_address(number)}"
         places += "".join(f" ~{contents}:{kind}" for kind in ("index:*", "chunk:*", "given", "held", "holds"))
         show(_user(f"farm-node{number}", key.of_node(number).password(), OF_NODES, places))
+    show("user default off ~* &* +@all")  # as which Redis reads its own file of commands: without these it would lose what scripts wrote
     sys.stderr.write("farm: begin the agents with --broker redis://farm-coordinator@HOST, redis://farm-node1@HOST ..\n")
     return 0
 

@@ -28,7 +28,7 @@ from agent.service.carried import written
 from agent.service.requests import RunRequest, StoreRequest
 from agent.service.sockets import Connection, Service, handled
 from agent.folders.shared import Closed, SharedFolders, Tenure
-from agent.transport.keys import make_key, node_key
+from agent.transport.keys import FarmKey, make_key, node_key
 from agent.transport.local import COORDINATOR, LocalTransport
 from agent.words import EMPTY, Slot, Want
 
@@ -475,7 +475,7 @@ class Apart(support.FarmTest):
     def test_broker_users(self) -> None:
         """By its user a node's agent reads its own lines alone, and deletes nothing. The farm works so, and only the coordinator's machine forgets."""
         make_key(f"{self.home}/key")
-        self.write("users.acl", self.farm("broker-users", "--nodes", "2").stdout + "user default off\n")
+        self.write("users.acl", self.farm("broker-users", "--nodes", "2").stdout)
         for node in (1, 2):
             self.asked("key", str(node), self.path(f"n{node}/node.key"))
         with support.redis_server(self.room, "--aclfile", self.path("users.acl"), "--appendonly", "yes", "--appendfsync", "always", port=support.free_port()) as server_url:
@@ -500,6 +500,9 @@ class Apart(support.FarmTest):
                 with self.assertRaisesRegex(RedisFault, "(?i)no permissions|can't run this command|not allowed|permission", msg=words):
                     server.call(*words)
             self.end()
+        with support.redis_server(self.room, "--aclfile", self.path("users.acl"), "--appendonly", "yes", port=int(server_url.rpartition(":")[2])):
+            server = Redis(signed_in(url, FarmKey(f"{self.home}/key").password()))  # Redis reads what it kept as its default user
+            self.assertTrue(server.call("SCAN", 0, "MATCH", "*:chunk:*", "COUNT", 1000)[1])
 
     def test_store_away(self) -> None:
         """Who waits for a store that is away is told, and may leave. What was left in a SHARED folder, maybe by others too, is committed

@@ -320,3 +320,5 @@ class Over(support.FarmTest):
                 self.assertRegex(self.asked("gc", "--grace", "0"), f"{self.url} forgot [0-9]+ indexes and [0-9]+ chunks")
                 self.assertIn("f\ng\nh\n", run(2, "ls w2"))
                 self.assertIn(f"well: the store {self.url}", self.asked("doctor"))
+                self.env["AWS_ENDPOINT_URL"] = "http://127.0.0.1:1"
+                self.assertIn(f"WRONG: the store {self.url}: can't be used: Could not connect", self.asked("doctor", status=70))
