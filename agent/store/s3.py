@@ -38,7 +38,7 @@ LOOKED_FOR = 2  # times that an index is asked for: a node hears nothing else me
 LIST_MOST = 16 << 20  # bytes of a list of such keys
 MARK_MOST = 1 << 10  # bytes
 
-HEX = re.compile("[0-9a-f]{4}")
+HEX, TIME = re.compile("[0-9a-f]{4}"), re.compile("[0-9]{1,12}")
 
 T = TypeVar("T")
 U = TypeVar("U")
@@ -153,7 +153,7 @@ class S3Store(SharedStore):
             text = self.bucket.get(each.key, LIST_MOST) if each.size else None
             for line in (text or b"").decode(errors="replace").splitlines():
                 key, _, since = line.partition(" ")
-                keys[key] = int(since) if since.isdecimal() else each.put
+                keys[key] = int(since) if TIME.fullmatch(since) else each.put
         return [each.key for each in there], keys
 
     # What is got.

@@ -279,6 +279,8 @@ class Over(support.FarmTest):
             with mock.patch.object(s3, "LATE", EVER):  # then nothing is deleted late any more
                 other.forget(lambda: {digest}, EVER)
             self.assertEqual(other._condemned()[1], {})
+            other.bucket.put("forgets/hostile", b"\xff\nchunk/x " + b"9" * 5000 + b"\nchunk/y 7")
+            self.assertEqual({"chunk/x", "chunk/y"} - other._forgetters().keys, set())
 
     @unittest.skipUnless(support.has("redis-server"), support.needs("redis-server"))
     def test_farm(self) -> None:
