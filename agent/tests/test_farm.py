@@ -19,7 +19,7 @@ from unittest import mock
 from agent.runs.caller import Patience
 from agent.filters.coordinator import CoordinatorAgent
 from agent.runs.executions import can_have_namespaces
-from agent.faults import ClientGone, FarmFault, LifeOver, WaitOver
+from agent.faults import ClientGone, FarmFault, LifeOver, Missing, WaitOver
 from agent.filters.lines import Answer, Pauses
 from agent.filters.node import NodeAgent
 from agent.transport.redis_wire import Redis, RedisFault, signed_in
@@ -503,6 +503,8 @@ class Apart(support.FarmTest):
         with support.redis_server(self.room, "--aclfile", self.path("users.acl"), "--appendonly", "yes", port=int(server_url.rpartition(":")[2])):
             server = Redis(signed_in(url, FarmKey(f"{self.home}/key").password()))  # Redis reads what it kept as its default user
             self.assertTrue(server.call("SCAN", 0, "MATCH", "*:chunk:*", "COUNT", 1000)[1])
+            with self.assertRaisesRegex(Missing, "NOAUTH"):
+                Redis(server_url)
 
     def test_store_away(self) -> None:
         """Who waits for a store that is away is told, and may leave. What was left in a SHARED folder, maybe by others too, is committed
