@@ -226,11 +226,7 @@ class Chaos:
             farm.trouble(how := dice.choice(TROUBLES), dice.uniform(1, 6))
             self.count(f"times that the bucket answered {how}")
         elif what == "object" and isinstance(farm, OverS3):
-            try:
-                self.spoilt_objects.add(farm.spoil(dice) or "")
-                self.count("objects spoilt or lost")
-            except BucketAway:
-                self.count("times that the bucket was too slow to be spoilt")
+            self.spoil_object(farm)
         elif what == "cut" and isinstance(farm, Machines):
             before = self.commits()
             farm.cut(dice.randrange(2, NODES + 1), dice.uniform(1, 9))
@@ -260,6 +256,13 @@ class Chaos:
             file.write(bad)
         os.rename(f"{path}.bad", path)
         self.count(f"chunks {how}")
+
+    def spoil_object(self, farm: OverS3) -> None:
+        try:
+            self.spoilt_objects.add(farm.spoil(self.dice) or "")
+            self.count("objects spoilt or lost")
+        except BucketAway:
+            self.count("times that the bucket was too slow to be spoilt")
 
     def gc(self, node: int | None, patience: float | None) -> None:
         """Forgets what no version has, however young it is, and is killed amid that, or not."""
