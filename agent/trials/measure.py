@@ -80,7 +80,7 @@ class Watched:
         self.begun = self._seconds()
         self.most: dict[str, int] = {}  # kB
         self.stopping = threading.Event()
-        self.thread = threading.Thread(target=self._watch)
+        self.thread = threading.Thread(target=self._watch, daemon=True)
         self.thread.start()
 
     def _watch(self) -> None:
