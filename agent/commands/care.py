@@ -47,9 +47,12 @@ def do_restore(args: argparse.Namespace) -> int:
     folder, _, number = args.version.rpartition("@")
     if not folder or not number.isdecimal():
         raise UsageFault(f"{args.version} names no version: FOLDER@NUMBER")
+    by = args.by or args.home
+    if client.is_there(f"{by}/coordinator.sock") and next(node_sockets(by), None) is None:
+        raise FarmFault(f"no node runs in {by}: --by names the home of one that runs on this machine")
     with tempfile.TemporaryDirectory(prefix="farm-restore-") as room:
         do_get(argparse.Namespace(home=args.home, folder=args.version, to=f"{room}/held", lost=False))
-        return do_put(argparse.Namespace(home=args.home, node=args.node, wait=args.wait, folder=folder, source=f"{room}/held"))
+        return do_put(argparse.Namespace(home=by, node=args.node, wait=args.wait, folder=folder, source=f"{room}/held"))
 
 
 KEPT = ("key", "record", "record.log", "known", "lost")  # of a coordinator's home: without these the farm can't go on as it was
@@ -198,10 +201,16 @@ def _look_at_farm(home: str) -> Iterator[Finding]:
         yield Finding(f"the coordinator: ticket {told.tickets}, {len(told.leases)} leases, {len(told.waiting)} asks wait")
         for number, at in sorted(told.heard.items(), key=lambda each: int(each[0])):
             silent = time.time() - at
+            if int(number) in told.gone:
+                if silent <= SILENT:
+                    yield Finding(f"node {number}", "it was retired, and its agent still runs: end it", is_warning=True)
+                continue
             trouble = f"it wasn't heard for {silent:.0f} s: if it is gone for good, farm retire {number} --gone" if silent > SILENT else ""
             yield Finding(f"node {number}", trouble, is_warning=True)
+    elif nodes and os.path.exists(f"{home}/joined"):
+        yield Finding("the coordinator: it runs on another machine")
     elif nodes:
-        yield Finding("the coordinator", "it runs on another machine", is_warning=not os.path.exists(f"{home}/joined"))
+        yield Finding("the coordinator", f"it doesn't answer at {path}: end the farm's agent, and start it again")
     else:
         yield Finding("a farm", f"none runs in {home}: farm run starts one, and farm up one that lasts", is_warning=True)
     for place in {client.told_at(each, StoreRequest(), StorePlace, shows=False) for each in (nodes or [path]) if client.is_there(each)}:
@@ -233,7 +242,7 @@ def _store(home: str, place: StorePlace) -> Finding:
         store_at(home, place).index("0" * 64)
         return Finding(what)
     except (FarmFault, OSError) as fault:
-        return Finding(what, str(fault))
+        return Finding(what, str(fault).removeprefix(f"{what} "))
 
 
 LOOKS: tuple[Callable[[str], Iterator[Finding]], ...] = (_look_at_tools, _look_at_kernel, _look_at_isolation, _look_at_home, _look_at_farm)

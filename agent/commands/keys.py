@@ -16,7 +16,7 @@ from agent.transport.keys import FARM_NAME, NODE_NAME, FarmKey
 from agent.transport.local import COORDINATOR, node_address
 
 OF_NODES = "+ping +select +time +xadd +xread +xrevrange +get +exists +set +zadd +zscore +hset +hdel +hkeys +hgetall +incr +eval"
-OF_COORDINATOR = f"{OF_NODES} +del +zrem +scan +config|get"
+OF_COORDINATOR = f"{OF_NODES} +del +zrem +scan +strlen +config|get"
 
 
 def farm_key(home: str) -> FarmKey:
@@ -60,6 +60,7 @@ def do_broker_users(args: argparse.Namespace) -> int:
         places = f"%W~{lines}:to:{COORDINATOR} %W~{lines}:to:node.* %RW~{lines}:to:{node_address(number)}"
         places += "".join(f" ~{contents}:{kind}" for kind in ("index:*", "chunk:*", "given", "held", "holds"))
         show(_user(f"farm-node{number}", key.of_node(number).password(), OF_NODES, places))
+    show("user default off ~* &* +@all")  # as which Redis reads its own file of commands: without these it would lose what scripts wrote
     sys.stderr.write("farm: begin the agents with --broker redis://farm-coordinator@HOST, redis://farm-node1@HOST ..\n")
     return 0
 

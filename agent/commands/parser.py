@@ -299,6 +299,7 @@ def _asking_words(verbs: Any) -> None:
         verbs, "restore", _asks("do_restore", "care"), "makes a folder's next version what an earlier one held", "farm restore locked:ccache@17"
     )
     restore.add_argument("version", metavar="FOLDER@NUMBER")
+    restore.add_argument("--by", type=path, metavar="HOME", help="the home of a node of this machine, where the coordinator has one of its own")
     restore.add_argument("--node", type=node, metavar="N")
     restore.add_argument("--wait", type=seconds, metavar="SECONDS")
     _verb(verbs, "doctor", _asks("do_doctor", "care"), "says what of this machine and its farm isn't well, and how to mend it", "farm doctor")

@@ -72,7 +72,7 @@ def start_for(home: str, node: int | None) -> None:
     """Starts a farm where no node runs, unless that is for people to do."""
     if node not in (None, 1) or client.is_there(f"{home}/coordinator.sock"):
         raise FarmFault(f"no node {node or ''} runs in {home}".replace("  ", " "))
-    if os.path.exists(f"{home}/joined"):
+    if os.path.exists(f"{home}/joined") or os.path.exists(f"{home}/node.key"):
         raise FarmFault(f"no node runs in {home}, which is of a farm over a broker: farm node N --broker redis://.. runs one")
     if os.path.exists(f"{home}/served"):
         raise FarmFault(f"the farm of {home} was killed: farm up starts it again, or remove {home}/served")

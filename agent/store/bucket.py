@@ -17,7 +17,7 @@ import re
 import sys
 import threading
 import time
-from typing import Any, Callable, NamedTuple, Sequence, TypeVar
+from typing import Any, Callable, Iterator, NamedTuple, Sequence, TypeVar
 
 from agent.faults import FarmFault, Missing, UsageFault
 
@@ -48,6 +48,7 @@ class Entry(NamedTuple):
     key: str
     size: int
     put: float  # when, by the store's clock
+    tag: str  # the ETag
 
 
 def place_of(url: str) -> tuple[str, str]:
@@ -61,6 +62,11 @@ def place_of(url: str) -> tuple[str, str]:
 def tag_of(data: bytes) -> str:
     """The ETag of what was put whole, where the store's ETags are digests."""
     return hashlib.md5(data, usedforsecurity=False).hexdigest()
+
+
+def bare(said: dict[str, Any]) -> str:
+    """The ETag that an answer tells."""
+    return str(said.get("ETag", "")).strip('"')
 
 
 def md5_of(data: bytes) -> str:
@@ -157,7 +163,7 @@ class Bucket:
     def tag(self, key: str) -> str | None:
         """The ETag of a key."""
         said: Any = self._tried(functools.partial(self._or_none, functools.partial(self.client.head_object, Bucket=self.name, Key=self.front + key)))
-        return None if said is None else str(said.get("ETag", "")).strip('"')
+        return None if said is None else bare(said)
 
     def get(self, key: str, most: int, tries: int = TRIES) -> bytes | None:
         """What a key has. None where it isn't there, or has more bytes than it can have."""
@@ -175,23 +181,38 @@ class Bucket:
 
         return self._tried(read, tries)
 
-    def listed(self, front: str, tries: int = TRIES) -> tuple[float, list[Entry]]:
-        """What the store's clock was, and all keys that begin so."""
-        entries, now, place = list[Entry](), 0.0, dict[str, str]()
+    def pages(self, front: str, tries: int = TRIES) -> Iterator[tuple[float, list[Entry]]]:
+        """All keys that begin so, a thousand at a time, and what the store's clock was."""
+        place = dict[str, str]()
         while True:
             words = {"Bucket": self.name, "Prefix": self.front + front, **place}
             said: Any = self._tried(functools.partial(self.client.list_objects_v2, **words), tries)
-            now = now or email.utils.parsedate_to_datetime(said["ResponseMetadata"]["HTTPHeaders"]["date"]).timestamp()
-            entries += [Entry(each["Key"][len(self.front) :], each["Size"], each["LastModified"].timestamp()) for each in said.get("Contents", ())]
+            yield email.utils.parsedate_to_datetime(said["ResponseMetadata"]["HTTPHeaders"]["date"]).timestamp(), [
+                Entry(each["Key"][len(self.front) :], each["Size"], each["LastModified"].timestamp(), bare(each)) for each in said.get("Contents", ())
+            ]
             if not said.get("IsTruncated"):
-                return now, entries
+                return
             place = {"ContinuationToken": said["NextContinuationToken"]}
 
-    def delete(self, keys: Sequence[str], tries: int = TRIES) -> None:
-        """Deletes keys, of which some may be gone."""
-        for at in range(0, len(keys), DELETED_AT_ONCE):
+    def listed(self, front: str, tries: int = TRIES) -> tuple[float, list[Entry]]:
+        """What the store's clock was at first, and all keys that begin so."""
+        times, entries = zip(*self.pages(front, tries))
+        return times[0], [each for page in entries for each in page]
+
+    def delete(self, keys: Sequence[str], tries: int = TRIES) -> bool:
+        """Deletes keys, of which some may be gone. Whether the store answered at once: what it didn't answer it may do later."""
+        asked = 0
+
+        def ask(some: object) -> Any:
+            nonlocal asked
+            asked += 1
+            return self.client.delete_objects(Bucket=self.name, Delete=some)
+
+        turns = range(0, len(keys), DELETED_AT_ONCE)
+        for at in turns:
             some = {"Objects": [{"Key": self.front + key} for key in keys[at : at + DELETED_AT_ONCE]], "Quiet": True}
-            said: Any = self._tried(functools.partial(self.client.delete_objects, Bucket=self.name, Delete=some), tries)
+            said: Any = self._tried(functools.partial(ask, some), tries)
             for each in said.get("Errors", ()):
                 if each.get("Code") not in ABSENT:
                     raise BucketFault(f"{each.get('Key')} wasn't deleted: {each.get('Code')} {each.get('Message')}")
+        return asked == len(turns)

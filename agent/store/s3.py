@@ -7,14 +7,15 @@ without conditions, so both sides say what they are about before they look at wh
   what it needs under keys that never were, KEY.RANDOM, which who misses KEY finds by its front;
 - who forgets puts which keys it is about to delete, and then reads what is held, asks what is needed, and leaves all of that alone.
 
-So one of the two has seen the other. What was about to be deleted stays told as long as its deleter may live: one alone forgets, on the
-coordinator's machine, under a lock of that machine, and what killed ones before it were about to delete is as good as its own.
+So one of the two has seen the other. One alone forgets, on the coordinator's machine, under a lock of that machine. What was about to be
+deleted stays told until the store has answered; where it didn't, or the one that forgot was killed, as long as it may do it yet.
 """
 from __future__ import annotations
 
 import contextlib
 import fcntl
 import hashlib
+import re
 import secrets
 import time
 from concurrent.futures import ThreadPoolExecutor
@@ -29,9 +30,15 @@ from agent.store.shared import AWAY, SharedStore, most_packed
 
 PAUSE_LEAST, PAUSE_MOST = 0.5, 5.0  # seconds before a store that was away is tried again
 CONDEMNED_MOST = 10_000  # keys that are about to be deleted at once
+LATE = 3600.0  # seconds for which a store may do what it was asked: S3 refuses what comes later than a quarter of an hour
+LISTED_FROM = 1_000  # chunks: what is there of as many is listed, where that takes fewer requests than to ask for each
+ITEMS_MOST = 1_024  # of what is done at once
+TOLD_MOST = 100_000  # keys that may be deleted late
 LOOKED_FOR = 2  # times that an index is asked for: a node hears nothing else meanwhile, and the other nodes may have it
 LIST_MOST = 16 << 20  # bytes of a list of such keys
 MARK_MOST = 1 << 10  # bytes
+
+HEX, TIME = re.compile("[0-9a-f]{4}"), re.compile("[0-9]{1,12}")
 
 T = TypeVar("T")
 U = TypeVar("U")
@@ -49,9 +56,11 @@ NOBODY = Forgetters(frozenset(), frozenset())
 
 def at_once(does: Callable[[T], U], items: Iterable[T]) -> list[U]:
     """Does something for each, several at once. With the first fault what wasn't begun is left."""
-    pool = ThreadPoolExecutor(AT_ONCE)
+    pool, left, done = ThreadPoolExecutor(AT_ONCE), list(items), list[U]()
     try:
-        return list(pool.map(does, items))
+        for at in range(0, len(left), ITEMS_MOST):  # what waits for its turn takes two kilobytes each
+            done += pool.map(does, left[at : at + ITEMS_MOST])
+        return done
     finally:
         pool.shutdown(cancel_futures=True)
 
@@ -135,13 +144,17 @@ class S3Store(SharedStore):
                 self.compared.clear()
         return Forgetters(there, frozenset(keys))
 
-    def _condemned(self) -> tuple[list[str], list[str]]:
-        """Where it stands who forgot or forgets, and the keys that are about to be deleted."""
-        there = self.bucket.listed("forgets/")[1]
+    def _condemned(self) -> tuple[list[str], dict[str, float]]:
+        """Where it stands who forgot or forgets, and the keys that are about to be deleted, since when by the store's clock."""
+        there, keys = self.bucket.listed("forgets/")[1], dict[str, float]()
         if any(each.size > LIST_MOST for each in there):
             raise BucketFault(f"below forgets/ it has more than {LIST_MOST} bytes at once")
-        lists = [self.bucket.get(each.key, LIST_MOST) or b"" for each in there if each.size]
-        return [each.key for each in there], [key for told in lists for key in told.decode().split()]
+        for each in there:
+            text = self.bucket.get(each.key, LIST_MOST) if each.size else None
+            for line in (text or b"").decode(errors="replace").splitlines():
+                key, _, since = line.partition(" ")
+                keys[key] = int(since) if TIME.fullmatch(since) else each.put
+        return [each.key for each in there], keys
 
     # What is got.
 
@@ -221,6 +234,7 @@ class _Sending:
         self.held = "" if is_anew else store._hold(digest)
         self.missing: dict[str, None] | None = None  # chunks that aren't known to be there; none until that was looked for
         self.forgetters = NOBODY
+        self.tags: dict[str, str] | None = None  # of the keys of chunks that are there; none where each is asked for
         self.spoilt = list[str]()  # what was replaced
 
     def left(self) -> int:
@@ -234,6 +248,7 @@ class _Sending:
             self.forgetters = store._forgetters()
             with store.lock:
                 self.missing = {name: None for name in self.sizes if self.is_anew or name not in store.compared}
+            self.tags = self._listed({f"chunk/{name}" for name in self.missing})
         try:
             at_once(self._give_chunk, list(self.missing))
             self._give(f"index/{self.digest}", self.index, lambda data: data == self.index)
@@ -241,6 +256,17 @@ class _Sending:
             if self.spoilt:
                 tell_people(f"{store.name} had {len(self.spoilt)} spoilt objects, {self.spoilt[0]} among them: they are replaced by what they name")
                 self.spoilt.clear()
+
+    def _listed(self, keys: set[str]) -> dict[str, str] | None:
+        """The ETags of those of these keys that are there. None where listings take too many requests, as the first ones tell: names are digests."""
+        tags = dict[str, str]()
+        if len(keys) < LISTED_FROM:
+            return None
+        for number, (_, entries) in enumerate(self.store.bucket.pages("chunk/"), 1):
+            tags.update((each.key, each.tag) for each in entries if each.key in keys)
+            if entries and number > how_far(entries[-1]) * len(keys) / AT_ONCE:
+                return None
+        return tags
 
     def _give_chunk(self, name: str) -> None:
         assert self.missing is not None
@@ -259,7 +285,7 @@ class _Sending:
         if key in self.forgetters.keys:
             bucket.put(f"{key}.{secrets.token_hex(8)}", data)
             return True
-        tag = bucket.tag(key)
+        tag = bucket.tag(key) if self.tags is None or not key.startswith("chunk/") else self.tags.get(key)
         if tag == tag_of(data):
             return False
         if tag is not None:
@@ -290,8 +316,8 @@ class _Forgetting:
         unused = [each for each in chunks if digest_of(each) not in self.used and each.put <= now - grace and (had is None or digest_of(each) in had)]
         keys = [each.key for each in gone + unused]
         for at in range(0, len(keys) or bool(told), CONDEMNED_MOST):
-            before = [self._delete(keys[at : at + CONDEMNED_MOST], told, before)]
-            told = []
+            told = {key: since for key, since in told.items() if since > now - LATE}
+            before, told = self._delete(dict.fromkeys(keys[at : at + CONDEMNED_MOST], now), told, before)
 
     def _look(self) -> set[str]:
         """Learns what is held and needed. The digests that are needed now, and weren't."""
@@ -311,24 +337,36 @@ class _Forgetting:
                 is_whole = False
         return is_whole
 
-    def _delete(self, keys: list[str], told: list[str], before: list[str]) -> str:
-        """Deletes what isn't needed of these, in the place of those that forgot before. The key that says so."""
+    def _delete(self, keys: dict[str, float], told: dict[str, float], before: list[str]) -> tuple[list[str], dict[str, float]]:
+        """Deletes what isn't needed of these, in the place of those that forgot before. Where it says so, and what it still says then."""
+        if len(told) > TOLD_MOST:
+            raise FarmFault(f"{self.store.name} forgot nothing more: it may delete {len(told)} objects late, which it was asked to, and didn't answer")
         own = f"forgets/{secrets.token_hex(8)}"
-        self.bucket.put(own, "\n".join([*keys, *told]).encode())
+        self.bucket.put(own, told_text(told | keys))
         self.bucket.delete(before)
         if not self._use(self._look(), lambda digest: None):
             raise FarmFault(f"{self.store.name} forgot nothing more: a commit came meanwhile that can't be read. Begin it anew")
         gone = [key for key in keys if part_of(key) not in self.needed and part_of(key) not in self.used]
-        self.bucket.delete(gone)
+        told = told if self.bucket.delete(gone) else told | keys
         self.indexes += sum(key.startswith("index/") for key in gone)
         self.chunks += sum(key.startswith("chunk/") for key in gone)
-        self.bucket.put(own, b"")
-        return own
+        self.bucket.put(own, told_text(told))
+        return [own], told
+
+
+def told_text(keys: dict[str, float]) -> bytes:
+    return "".join(f"{key} {since:.0f}\n" for key, since in keys.items()).encode()
 
 
 def part_of(key: str) -> str:
     """The digest, or the chunk's name, of a key."""
     return key.partition("/")[2].partition(".")[0]
+
+
+def how_far(entry: Entry) -> float:
+    """Which share of all names comes up to this one's, in order."""
+    digits = digest_of(entry)[:4]
+    return (int(digits, 16) + 1) / 0x10000 if HEX.fullmatch(digits) else 0.0
 
 
 def digest_of(entry: Entry) -> str:

@@ -19,7 +19,7 @@ from unittest import mock
 from agent.runs.caller import Patience
 from agent.filters.coordinator import CoordinatorAgent
 from agent.runs.executions import can_have_namespaces
-from agent.faults import ClientGone, FarmFault, LifeOver, WaitOver
+from agent.faults import ClientGone, FarmFault, LifeOver, Missing, WaitOver
 from agent.filters.lines import Answer, Pauses
 from agent.filters.node import NodeAgent
 from agent.transport.redis_wire import Redis, RedisFault, signed_in
@@ -28,7 +28,7 @@ from agent.service.carried import written
 from agent.service.requests import RunRequest, StoreRequest
 from agent.service.sockets import Connection, Service, handled
 from agent.folders.shared import Closed, SharedFolders, Tenure
-from agent.transport.keys import make_key, node_key
+from agent.transport.keys import FarmKey, make_key, node_key
 from agent.transport.local import COORDINATOR, LocalTransport
 from agent.words import EMPTY, Slot, Want
 
@@ -452,7 +452,10 @@ class Apart(support.FarmTest):
             self.assertIn("node.key is missing", self.asked("node", "1", "--home", self.path("n1"), "--broker", url, status=64))
             for node in ("1", "2"):
                 self.asked("key", node, self.path(f"n{node}/node.key"))
+                self.assertIn("of a farm over a broker", self.run_on(int(node), "true", 70))  # with the key of a node no farm of its own begins
+                self.assertIn("of a farm over a broker", self.asked("up", "--home", self.path(f"n{node}"), status=64))
                 self.up("node", node, "--home", self.path(f"n{node}"), "--broker", url)
+            self.assertIn("well: the coordinator: it runs on another machine", self.asked("doctor", "--home", self.path("n1")))
             for number in range(3):
                 self.run_on(1 + number % 2, f"head -c 200000 /dev/urandom > w{1 + number % 2}/f{number}")
             self.assertRegex(self.asked("gc", "--keep", "1", "--grace", "0"), "Redis forgot 2 indexes and [0-9]+ chunks")
@@ -465,12 +468,14 @@ class Apart(support.FarmTest):
             self.assertIn("f0 f1 f2", said)
             self.assertIn("the other nodes are asked for them", said)
             self.alone(url)
+            self.asked("expel", "2")
+            self.assertIn("warning: node 2: it was retired, and its agent still runs", self.asked("doctor"))
             self.end()
 
     def test_broker_users(self) -> None:
         """By its user a node's agent reads its own lines alone, and deletes nothing. The farm works so, and only the coordinator's machine forgets."""
         make_key(f"{self.home}/key")
-        self.write("users.acl", self.farm("broker-users", "--nodes", "2").stdout + "user default off\n")
+        self.write("users.acl", self.farm("broker-users", "--nodes", "2").stdout)
         for node in (1, 2):
             self.asked("key", str(node), self.path(f"n{node}/node.key"))
         with support.redis_server(self.room, "--aclfile", self.path("users.acl"), "--appendonly", "yes", "--appendfsync", "always", port=support.free_port()) as server_url:
@@ -481,6 +486,9 @@ class Apart(support.FarmTest):
                 self.up("node", str(node), "--nodes", "2", "--home", self.path(f"n{node}"), "--broker", url.replace("coordinator", f"node{node}"))
                 self.assertIn(f"version {node}", self.run_on(node, f"echo {node} >> w{node}/f"))
             self.assertEqual(self.read("w2/f"), "1\n2\n")
+            self.assertRegex(self.asked("du"), "^locked:c: .*; 2 of 2 versions are kept\n")
+            self.assertIn("--by names", self.asked("restore", "locked:c@1", status=70))
+            self.assertIn("version 3", self.farm("restore", "locked:c@1", "--by", self.path("n1")).stderr)
             self.assertRegex(self.asked("gc", "--keep", "1", "--grace", "0"), "Redis forgot 1 index")
             key = node_key(self.path("n1/node.key"))
             server, lines = Redis(signed_in(url.replace("coordinator", "node1"), key.password())), f"farm-{key.names.lines()}:to"
@@ -492,6 +500,11 @@ class Apart(support.FarmTest):
                 with self.assertRaisesRegex(RedisFault, "(?i)no permissions|can't run this command|not allowed|permission", msg=words):
                     server.call(*words)
             self.end()
+        with support.redis_server(self.room, "--aclfile", self.path("users.acl"), "--appendonly", "yes", port=int(server_url.rpartition(":")[2])):
+            server = Redis(signed_in(url, FarmKey(f"{self.home}/key").password()))  # Redis reads what it kept as its default user
+            self.assertTrue(server.call("SCAN", 0, "MATCH", "*:chunk:*", "COUNT", 1000)[1])
+            with self.assertRaisesRegex(Missing, "NOAUTH"):
+                Redis(server_url)
 
     def test_store_away(self) -> None:
         """Who waits for a store that is away is told, and may leave. What was left in a SHARED folder, maybe by others too, is committed

@@ -103,6 +103,31 @@ class Over(support.FarmTest):
             one.offer(digest)  # its ETags say nothing, as where the store has keys of its own: what is right there stays
         put.assert_not_called()
 
+    def test_many(self) -> None:
+        """Where much is to be given, what is there is listed, if that takes fewer requests than to ask for each; else each is asked for."""
+        for k in range(8):
+            self.write(f"tree/{k}", str(k) * 70_000)
+        support.kept(self.store("a"), self.path("tree"))
+        store = self.store("b")
+        for number, (keys, is_each_asked) in enumerate(((1000, False), (1, True))):
+            self.write("tree/new", os.urandom(100_000).hex())
+            index, _ = support.kept(maker := self.store(f"c{number}"), self.path("tree"))
+            names = chunk_names(index)
+            store.bucket.delete([f"chunk/{name}" for name in names[:2]])
+            store.bucket.put(f"chunk/{names[2]}", b"spoilt")
+            maker.compared.clear()
+            list_objects = store.bucket.client.list_objects_v2
+            with (
+                mock.patch.multiple(s3, LISTED_FROM=4, AT_ONCE=2, tell_people=mock.Mock()), mock.patch.object(maker.bucket, "tag", wraps=maker.bucket.tag) as asked,
+                mock.patch.object(maker.bucket.client, "list_objects_v2", lambda **words: list_objects(**words, MaxKeys=keys)),
+            ):
+                with maker.making():
+                    maker.publish(index)
+            self.assertEqual(asked.call_count, len(names) + 1 if is_each_asked else 1)
+            reader = self.store(f"d{number}")
+            trees.extract(reader, index, self.path(f"many{number}"))
+            self.assertEqual(self.read(f"many{number}/f"), "text" * 1000)
+
     def test_refused(self) -> None:
         self.store("a")
         with self.assertRaisesRegex(UsageFault, "the contents of another farm"):
@@ -232,6 +257,35 @@ class Over(support.FarmTest):
         other.forget(set, EVER)
         self.assertEqual([self.keys(maker, kind) for kind in ("chunk/", "index/")], [[], []])
 
+    def test_late(self) -> None:
+        """What the store was asked to delete it may delete after its asker has given up, or was killed: after a commit that needs it too."""
+        for number, fault in enumerate((OSError("no answer"), KeyboardInterrupt())):
+            self.url = f"{self.place.url}/late{number}"
+            maker, other = self.store(f"maker{number}", "1"), self.store(f"other{number}")
+            index, digest = support.kept(maker, self.path("tree"))
+            late, delete = list[dict[str, object]](), other.bucket.client.delete_objects
+
+            def unanswered(**words: dict[str, list[dict[str, str]]]) -> object:
+                if late or not any("/chunk/" in each["Key"] for each in words["Delete"]["Objects"]):
+                    return delete(**words)
+                late.append(dict(words))
+                raise fault
+
+            with mock.patch.object(other.bucket.client, "delete_objects", unanswered), contextlib.suppress(KeyboardInterrupt):
+                other.forget(set, EVER)
+            other.forget(set, EVER)
+            with maker.making():
+                maker.publish(make_whole(maker, self.path("tree")))
+            delete(**late[0])
+            reader = self.store(f"reader{number}")
+            trees.extract(reader, reader.index(digest) or b"", self.path(f"late{number}"))
+            self.assertEqual(self.read(f"late{number}/f"), "text" * 1000)
+            with mock.patch.object(s3, "LATE", EVER):  # then nothing is deleted late any more
+                other.forget(lambda: {digest}, EVER)
+            self.assertEqual(other._condemned()[1], {})
+            other.bucket.put("forgets/hostile", b"\xff\nchunk/x " + b"9" * 5000 + b"\nchunk/y 7")
+            self.assertEqual({"chunk/x", "chunk/y"} - other._forgetters().keys, set())
+
     @unittest.skipUnless(support.has("redis-server"), support.needs("redis-server"))
     def test_farm(self) -> None:
         """Two nodes with homes of their own. What the agents sign with no command sees."""
@@ -272,3 +326,5 @@ class Over(support.FarmTest):
                 self.assertRegex(self.asked("gc", "--grace", "0"), f"{self.url} forgot [0-9]+ indexes and [0-9]+ chunks")
                 self.assertIn("f\ng\nh\n", run(2, "ls w2"))
                 self.assertIn(f"well: the store {self.url}", self.asked("doctor"))
+                self.env["AWS_ENDPOINT_URL"] = "http://127.0.0.1:1"
+                self.assertIn(f"WRONG: the store {self.url}: can't be used: Could not connect", self.asked("doctor", status=70))

@@ -32,6 +32,7 @@ from agent.store.chunks import chunk_names  # noqa: E402
 from agent.runs.executions import can_have_namespaces  # noqa: E402
 from agent.faults import FarmFault  # noqa: E402
 from agent.store.brokers import BrokersStore  # noqa: E402
+from agent.store.bucket import BucketAway  # noqa: E402
 from agent.store.redis import RedisStore  # noqa: E402
 from agent.store.folder import FolderStore, Store  # noqa: E402
 from agent.trials.farms import PYTHON_FARM, Attacker, Farm, Machines, OverRedis, OverS3, Pipes, kill  # noqa: E402
@@ -42,6 +43,7 @@ KINDS: dict[str, type[Farm]] = {"pipes": Pipes, "redis": OverRedis, "machines": 
 COMMON, SPELL = 0.3, 2.0  # the share of commands at one path for all nodes, each in its node's network, and the seconds for which it is that path
 CALM = 240.0  # seconds in which an undisturbed farm has to do its last commands, on a machine that others may have
 CHOICES = [["locked:a"], ["locked:a"], ["locked:b"], ["locked:a", "locked:b"], ["locked:a", "ro=locked:b"], ["private:p"], ["shared:s"]]
+TROUBLES = ("503", "slow 0.5", "slow 5", "slow 12", "lost", "unanswered", "repeated")  # what a bucket does to requests
 SPOILT = 99  # the status of a command that found a folder in a state that no command leaves
 
 # What is done to the farm, in an order that each round draws anew.
@@ -225,11 +227,10 @@ class Chaos:
         elif what == "redis" and isinstance(farm, OverRedis):
             self.break_broker(farm)
         elif what == "store" and isinstance(farm, OverS3):
-            farm.trouble(how := dice.choice(["503", "slow 0.5", "slow 5"]), dice.uniform(1, 6))
+            farm.trouble(how := dice.choice(TROUBLES), dice.uniform(1, 6))
             self.count(f"times that the bucket answered {how}")
         elif what == "object" and isinstance(farm, OverS3):
-            self.spoilt_objects.add(farm.spoil(dice) or "")
-            self.count("objects spoilt or lost")
+            self.spoil_object(farm)
         elif what == "cut" and isinstance(farm, Machines):
             before = self.commits()
             farm.cut(dice.randrange(2, NODES + 1), dice.uniform(1, 9))
@@ -273,6 +274,13 @@ class Chaos:
             file.write(bad)
         os.rename(f"{path}.bad", path)
         self.count(f"chunks {how}")
+
+    def spoil_object(self, farm: OverS3) -> None:
+        try:
+            self.spoilt_objects.add(farm.spoil(self.dice) or "")
+            self.count("objects spoilt or lost")
+        except BucketAway:
+            self.count("times that the bucket was too slow to be spoilt")
 
     def gc(self, node: int | None, patience: float | None) -> None:
         """Forgets what no version has, however young it is, and is killed amid that, or not."""

@@ -2,7 +2,7 @@
 """Measures the agent on this machine, in one run: what `farm run` costs beside the command, a folder of a gigabyte, one of two in many
 files, and a source package built on three nodes with ccache in a leased folder, beside other places for it.
 
-usage: agent/trials/measure.py [start] [folder] [many] [modes] [ten] [burst] [large] [rounds SOURCE.tar.gz] [package SOURCE.tar.gz [MAKE WORDS..]]
+usage: agent/trials/measure.py [start] [folder] [many] [fewer] [modes] [ten] [burst] [large] [rounds SOURCE.tar.gz] [package SOURCE.tar.gz [MAKE WORDS..]]
 """
 from __future__ import annotations
 
@@ -25,7 +25,8 @@ sys.dont_write_bytecode = True
 sys.path.insert(0, str(Path(__file__).resolve().parents[2]))
 
 from agent.tests.support import redis_server  # noqa: E402
-from agent.tools import TOP, farm_program  # noqa: E402
+from agent.tools import TOP  # noqa: E402
+from agent.trials import s3  # noqa: E402
 from agent.trials.farms import PYTHON_FARM, OverRedis, children  # noqa: E402
 from agent.trials.gate import farm_up  # noqa: E402
 
@@ -79,7 +80,7 @@ class Watched:
         self.begun = self._seconds()
         self.most: dict[str, int] = {}  # kB
         self.stopping = threading.Event()
-        self.thread = threading.Thread(target=self._watch)
+        self.thread = threading.Thread(target=self._watch, daemon=True)
         self.thread.start()
 
     def _watch(self) -> None:
@@ -104,27 +105,23 @@ class Watched:
         return f"{self._seconds() - self.begun:.0f} s of a processor, {memory}"
 
 
-def size_of(folder: str) -> int:
-    return int(subprocess.run(["du", "-sb", folder], capture_output=True, text=True, check=True).stdout.split()[0])
-
-
-def many(room: str) -> None:
-    """Two gigabytes in 50,000 files, of which a second version changes a hundredth, on the other node."""
+def many(room: str, number: int = 50_000) -> None:
+    """Many files of 40 kB, two gigabytes, of which a second version changes a hundredth, and a third one on the other node: with contents in a
+    folder that both see, in Redis, and in a bucket."""
     write = (
-        "import os, sys\nfor k in range(0, 50_000, int(sys.argv[2])):\n  os.makedirs(f'{sys.argv[1]}/{k % 250}', exist_ok=True)\n"
+        f"import os, sys\nfor k in range(0, {number}, int(sys.argv[2])):\n  os.makedirs(f'{{sys.argv[1]}}/{{k % 250}}', exist_ok=True)\n"
         "  open(f'{sys.argv[1]}/{k % 250}/{k}', 'wb').write(os.urandom(40_000))"
     )
-    with farm_up(room, 2) as home:
-        with open(f"{home}/pid") as file:
-            agent = int(file.read())
-        kept = 0
-        for node, every, name in ((1, 1, "written, and committed"), (1, 100, "500 changed, and committed"), (2, 100, "filled elsewhere, 500 changed, and committed")):
-            run = [FARM, "run", "--home", home, "--node", str(node), "--folder", f"locked:many={room}/w{node}", "--", "python3", "-c", write, f"{room}/w{node}", str(every)]
-            watched = Watched(agent)
-            took = seconds(run)
-            memory = watched.end("agent", "casync", os.path.basename(farm_program())[:15])  # as much of a name as the kernel tells
-            before, kept = kept, size_of(f"{home}/contents/chunks")
-            row(f"2 GB, 50,000 files: {name}", f"{took:.1f} s", f"{(kept - before) / 1e6:,.0f} MB of new chunks", memory)
+    with s3.server(f"{room}/swift") as bucket:
+        os.environ.update(bucket.env)
+        for place, contents in (("a folder", f"{room}/contents"), ("Redis", None), ("a bucket", bucket.url)):
+            with apart(room, 2, contents) as farm:
+                for node, every, name in ((1, 1, "written"), (1, 100, "1 % changed"), (2, 100, "filled elsewhere, 1 % changed")):
+                    watched = Watched(farm.agents[f"node{node}"].pid)
+                    took = seconds(farm.run(node, f"locked:many={room}/w{node}", "python3", "-c", write, f"{room}/w{node}", str(every)))
+                    row(f"{number / 25_000:.1f} GB, {number} files, in {place}: {name}", f"{took:.1f} s", watched.end("agent"))
+            for node in (1, 2):
+                shutil.rmtree(f"{room}/w{node}")
 
 
 class Package:
@@ -178,8 +175,12 @@ def package(room: str, source: str, words: list[str]) -> None:
 class Apart(OverRedis):
     """A coordinator and nodes over Redis, each an agent of its own, undisturbed."""
 
-    def __init__(self, room: str, nodes: int) -> None:
+    def __init__(self, room: str, nodes: int, contents: str | None = None) -> None:
         super().__init__(room, nodes, 0, None)
+        self.contents = ["--contents", contents] if contents else []
+
+    def words(self, name: str) -> list[str]:
+        return [*super().words(name), *self.contents]
 
     def command(self, name: str) -> list[str]:
         return [*PYTHON_FARM, *self.words(name), "--verbose"]
@@ -194,8 +195,8 @@ class Apart(OverRedis):
 
 
 @contextlib.contextmanager
-def apart(room: str, nodes: int) -> Iterator[Apart]:
-    farm = Apart(f"{room}/farm", nodes)
+def apart(room: str, nodes: int, contents: str | None = None) -> Iterator[Apart]:
+    farm = Apart(f"{room}/farm", nodes, contents)
     try:
         farm.begin()
         yield farm
@@ -344,7 +345,7 @@ def main() -> int:
     tar = os.path.abspath(words.pop(words.index("rounds") + 1)) if "rounds" in words else ""
     print(f"load {os.getloadavg()[0]:.1f}, {os.cpu_count()} processors", flush=True)
     jobs: dict[str, Callable[[str], None]] = {
-        "start": start, "folder": folder, "many": many, "modes": modes, "ten": ten, "burst": burst, "large": lambda room: burst(room, 40_000),
+        "start": start, "folder": folder, "many": many, "fewer": lambda room: many(room, 5_000), "modes": modes, "ten": ten, "burst": burst, "large": lambda room: burst(room, 40_000),
         "rounds": lambda room: rounds(room, tar), "package": lambda room: package(room, os.path.abspath(source[0]), source[1:]),
     }
     for name, job in jobs.items():

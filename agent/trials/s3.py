@@ -3,17 +3,25 @@
 
 usage: agent/trials/s3.py ROOM    says `up PORT`, and serves until its standard input ends
 
-What the file ROOM/fault has is done to each request as long as it is there: `503` refuses it, `slow SECONDS` lets it wait.
+What the file ROOM/fault has is done to each request as long as it is there: `503` refuses it, `slow SECONDS` lets it wait, also where its asker
+gives up meanwhile, `repeated` carries it out twice; `lost` and `unanswered` close the connections of half of them, before or after they are
+carried out.
 """
 from __future__ import annotations
 
 import array
 import contextlib
 import importlib
+import io
+import json
+import math
 import os
+import random
+import socket
 import subprocess
 import sys
-from typing import Any, Callable, Iterable, Iterator, NamedTuple
+from time import time as clock
+from typing import Any, Iterable, Iterator, NamedTuple
 
 PYTHON = "/usr/bin/python3"  # swift is Debian's
 USER, SECRET, BUCKET = "farm:tester", "testing", "contents"
@@ -29,13 +37,10 @@ container_update_timeout = 60
 fallocate_reserve = 0
 """
 FRONT = f"""[pipeline:main]
-pipeline = catch_errors gatekeeper cache listing_formats s3api tempauth copy dlo versioned_writes proxy-server
+pipeline = catch_errors gatekeeper listing_formats s3api tempauth copy dlo versioned_writes proxy-server
 [app:proxy-server]
 use = egg:swift#proxy
 account_autocreate = true
-[filter:cache]
-use = egg:swift#memcache
-memcache_servers = 127.0.0.1:1
 [filter:tempauth]
 use = egg:swift#tempauth
 user_{USER.replace(":", "_")} = {SECRET} .admin
@@ -97,21 +102,59 @@ def write(path: str, text: str) -> str:
     return path
 
 
-def faulty(room: str, app: Any, sleep: Callable[[float], None]) -> Any:
+class Memory:
+    """What swift keeps in memcached: without it each request asks for the account and the bucket."""
+
+    def __init__(self) -> None:
+        self.kept: dict[str, tuple[str, float]] = {}
+
+    def get(self, key: str, **_words: object) -> Any:
+        text, end = self.kept.get(key, ("null", 0.0))
+        return json.loads(text) if clock() < end else None
+
+    def set(self, key: str, value: Any, time: float = 0, **_words: object) -> None:
+        self.kept[key] = json.dumps(value), clock() + time if time else math.inf
+
+    def delete(self, key: str, **_words: object) -> None:
+        self.kept.pop(key, None)
+
+
+class Faulty:
     """Answers as `fault` has it, else as the application does."""
-    def answer(environ: Any, begin: Any) -> Iterable[bytes]:
+
+    def __init__(self, room: str, app: Any, eventlet: Any) -> None:
+        self.room, self.app, self.eventlet = room, app, eventlet
+        self.memory = Memory()
+
+    def __call__(self, environ: Any, begin: Any) -> Iterable[bytes]:
+        environ["swift.cache"] = self.memory
         words = list[str]()
-        with contextlib.suppress(OSError), open(f"{room}/fault") as file:
+        with contextlib.suppress(OSError), open(f"{self.room}/fault") as file:
             words = file.read().split()
-        if words[:1] == ["slow"]:
-            sleep(float(words[1]))
-        elif words:
-            environ["wsgi.input"].read(int(environ.get("CONTENT_LENGTH") or 0))
+        if words and words[0] in ("503", "lost", "unanswered", "repeated"):
+            environ["wsgi.input"] = io.BytesIO(environ["wsgi.input"].read(int(environ.get("CONTENT_LENGTH") or 0)))
+        if words[:1] == ["503"]:
             begin("503 Slow Down", [("Content-Type", "application/xml")])
             return [b"<Error><Code>SlowDown</Code><Message>Please reduce your request rate.</Message></Error>"]
-        return app(environ, begin)  # type: ignore[no-any-return]
+        if words[:1] == ["slow"]:
+            self.eventlet.sleep(float(words[1]))
+        elif words[:1] == ["repeated"]:
+            self._carry_out(environ)
+        elif words and random.random() < 0.5:
+            if words[:1] == ["unanswered"]:
+                self._carry_out(environ)
+            environ["eventlet.input"]._sock.shutdown(socket.SHUT_RDWR)
+            begin("500 Cut", [])
+            return []
+        return self.app(environ, begin)  # type: ignore[no-any-return]
 
-    return answer
+    def _carry_out(self, environ: Any) -> None:
+        """Does what is asked, and answers nobody."""
+        answer = self.app({**environ, "wsgi.input": io.BytesIO(environ["wsgi.input"].getvalue())}, lambda *_words: None)
+        for _ in answer:
+            pass
+        if hasattr(answer, "close"):
+            answer.close()
 
 
 def serve(room: str) -> None:
@@ -134,7 +177,7 @@ def serve(room: str) -> None:
         text = FRONT if name == "proxy" else f"[pipeline:main]\npipeline = {name}-server\n[app:{name}-server]\nuse = egg:swift#{name}\n"
         app = swift["wsgi"].loadapp(write(f"{room}/{name}-server.conf", COMMON.format(room=room) + text), global_conf={})
         if name == "proxy":
-            app = faulty(room, app, eventlet.sleep)
+            app = Faulty(room, app, eventlet)
         protocol = swift["wsgi"].SwiftHttpProtocol
         eventlet.spawn(eventlet.wsgi.server, listens, app, log=open(os.devnull, "w"), log_output=False, protocol=protocol, keepalive=True)
     eventlet.spawn(_begin, eventlet, sockets["proxy"].getsockname()[1])

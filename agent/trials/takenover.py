@@ -226,7 +226,7 @@ def main() -> int:
         key = FarmKey(make_key(f"{room}/c/key"))
         users = subprocess.run([*PYTHON_FARM, "broker-users", "--home", f"{room}/c", "--nodes", str(NODES)], check=True, capture_output=True, text=True).stdout
         with open(f"{room}/users.acl", "w") as file:
-            file.write(f"{users}user default off\n")
+            file.write(users)
         with redis_server(room, "--aclfile", f"{room}/users.acl", "--appendonly", "yes", "--appendfsync", "always", port=free_port()) as url:
             farm = Farm(room, url)
             assert farm.key.names == key.names
