@@ -103,7 +103,7 @@ def check(wanted: Wanted) -> None:
         raise UsageFault(f"a node that is well may be silent for some seconds: --lease-timeout is at least {SILENT_LEAST:g}")
     if not wanted.brokers and os.path.exists(mark):
         raise UsageFault(f"{home} is of a farm over a broker. If that farm is gone, remove {mark}")
-    if not wanted.broker and os.path.exists(f"{home}/{NODE_NAME}"):
+    if not wanted.brokers and os.path.exists(f"{home}/{NODE_NAME}"):
         raise UsageFault(f"{home}/{NODE_NAME} is the key of a node of a farm over a broker: name that --broker")
     if wanted.restored and (is_there(f"{home}/coordinator.sock") or not os.path.exists(f"{home}/{FARM_NAME}")):
         raise UsageFault(f"--restored is for a coordinator that has ended, and whose key and record lie in {home}")
