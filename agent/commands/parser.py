@@ -39,7 +39,7 @@ def parser() -> argparse.ArgumentParser:
     top.add_argument("--version", action=Version, nargs=0, help="says the version, and which program decides")
     verbs = top.add_subparsers(dest="verb", required=True, metavar="COMMAND")
     setattr(verbs, "home", default_home())
-    for add in (_serving_words, _run_words, _build_words, _asking_words):
+    for add in (_serving_words, _run_words, _build_words, _asking_words, _operating_words, _care_words):
         add(verbs)
     return top
 
@@ -280,6 +280,9 @@ def _asking_words(verbs: Any) -> None:
     get.add_argument("folder", metavar="FOLDER[@NUMBER]")
     get.add_argument("--lost", action="store_true", help="of what farm log --lost shows")
     get.add_argument("to", type=path, metavar="DIR", help="a folder, or - for a tar on the standard output")
+
+
+def _operating_words(verbs: Any) -> None:
     withdraw = _verb(verbs, "withdraw", _asks("do_withdraw"), "ends a lease: its holder's commit won't count", "farm withdraw 17")
     withdraw.add_argument("ticket", type=ticket, metavar="T")
     retire = _verb(verbs, "retire", _asks("do_retire"), "ends a node for good", "farm retire 3")
@@ -302,6 +305,9 @@ def _asking_words(verbs: Any) -> None:
     restore.add_argument("--by", type=path, metavar="HOME", help="the home of a node of this machine, where the coordinator has one of its own")
     restore.add_argument("--node", type=node, metavar="N")
     restore.add_argument("--wait", type=seconds, metavar="SECONDS")
+
+
+def _care_words(verbs: Any) -> None:
     _verb(verbs, "doctor", _asks("do_doctor", "care"), "says what of this machine and its farm isn't well, and how to mend it", "farm doctor")
     key = _verb(verbs, "key", _asks("do_key", "keys"), "writes the key of a node, on the coordinator's machine", "farm key 2 node2.key")
     key.add_argument("node", type=node, metavar="N")

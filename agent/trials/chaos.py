@@ -215,12 +215,18 @@ class Chaos:
         elif what == "agent":
             farm.kill(dice.choice(farm.names()), dice.random())
             self.count("agents killed")
-        elif what == "chunk" and isinstance(farm, OverRedis):
-            self.spoil_chunk(dice.randrange(1, NODES + 1))
         elif what == "gc":
             self.gc(dice.choice([None, *range(1, NODES + 1)]), dice.choice([None, dice.random()]))
         elif what == "record":
             self.put_back()
+        else:
+            self.disturb_world(what)
+
+    def disturb_world(self, what: str) -> None:
+        """What the farm stands on: clocks, stores, cables."""
+        dice, farm = self.dice, self.farm
+        if what == "chunk" and isinstance(farm, OverRedis):
+            self.spoil_chunk(dice.randrange(1, NODES + 1))
         elif what == "clock" and farm.clocks:
             farm.set_clocks(dice.choice(JUMPS[:3] if isinstance(farm, OverS3) else JUMPS))  # S3 refuses what was signed at another quarter of an hour
             self.count("clocks set")
