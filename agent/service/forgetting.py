@@ -92,15 +92,16 @@ def _forget(
     before = None if is_by_hand else store.tally()
     indexes, chunks = store.forget(needed, grace(max(rule.grace, rule.young)), tell)
     tried = set[str]()
-    while rule.most is not None and rule.young > rule.grace and (age := _beyond(store, rule, needed(), tried)) is not None:
-        more, pieces = store.forget(needed, max(age, rule.grace), tell)
+    while rule.most is not None and rule.young > rule.grace and (found := _beyond(store, rule, needed(), tried)) is not None:
+        age, stays = found  # what is younger may be as old as that by the time that it is looked at
+        more, pieces = store.forget(lambda: needed() | stays, max(age, rule.grace), lambda digest: None if digest in stays else tell(digest))
         indexes, chunks = indexes + more, chunks + pieces
     return Forgot(name, isinstance(store, SharedStore), indexes, chunks, before, None if is_by_hand else store.tally())
 
 
-def _beyond(store: Store, rule: Rule, kept: set[str], tried: set[str]) -> float | None:
-    """The age from which on contents have to go, so that the store has no more than the most bytes: of those that aren't needed, and weren't
-    tried before and held, the oldest go first. None where it hasn't more, or no others are there."""
+def _beyond(store: Store, rule: Rule, kept: set[str], tried: set[str]) -> tuple[float, set[str]] | None:
+    """The age from which on contents have to go, so that the store has no more than the most bytes, and those that stay: of those that aren't
+    needed, and weren't tried before and held, the oldest go first. None where it hasn't more, or no others are there."""
     tally = store.tally()
     over, age = tally.size() - (rule.most or 0), None
     old = sorted(((each.age, digest) for digest, each in tally.indexes.items() if digest not in kept | tried and each.age > rule.grace), reverse=True)
@@ -111,7 +112,7 @@ def _beyond(store: Store, rule: Rule, kept: set[str], tried: set[str]) -> float 
         over -= tally.indexes[digest].size + _alone(tally, users, chunk_names(store.index(digest) or b""))
         tried.add(digest)
         age = age_of_next
-    return age
+    return None if age is None else (age, tally.indexes.keys() - tried)
 
 
 def _alone(tally: Tally, users: Counter[str], names: list[str]) -> int:

@@ -189,6 +189,22 @@ class Once(support.RoomTest):
         return found
 
     @unittest.skipUnless(support.has("casync"), support.needs("casync"))
+    def test_late(self) -> None:
+        """With a bound no more goes than has to, also where long after the look what is younger is as old as what went."""
+        found, forget = self.publish("abc"), self.store.forget
+
+        def late(ask: Any, grace: float, tell: Any) -> tuple[int, int]:
+            return forget(ask, grace - 1.5, tell)
+
+        for digest in found.values():
+            self.store.release(digest)
+        self.needed = {found["c"]}
+        size = self.store.tally().size()
+        with self.running(Rule(grace=0.0, young=10.0**9 * 9, most=size - 1, every=1.0)) as (by_itself, _, _), mock.patch.object(self.store, "forget", late):
+            self.assertTrue(by_itself.once())
+        self.assertEqual(set(os.listdir(self.store.indexes)), {found["b"], found["c"]})
+
+    @unittest.skipUnless(support.has("casync"), support.needs("casync"))
     def test_stays(self) -> None:
         """What a commit under way holds stays, and what is needed; of the rest the oldest go first, and no more than have to."""
         digests = self.publish("abcde")
